@@ -1,0 +1,8 @@
+//! What all crates speak of: kinds, values, names and the words of a command line.
+#![tactic(auto)]
+
+pub mod item;
+pub mod name;
+pub mod text;
+pub mod value;
+pub mod words;
