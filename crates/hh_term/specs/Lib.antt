@@ -1,0 +1,11 @@
+pub mod Statement
+pub mod Selection
+pub mod Kernel
+pub mod Views
+pub mod Viewed
+pub mod Codes
+pub mod MustCan
+pub mod Touches
+pub mod Step
+pub mod Reaction
+pub mod FirstLanguage

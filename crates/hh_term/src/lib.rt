@@ -1,0 +1,6 @@
+//! Kernel programs, where control rests in them, and what a reaction of one is.
+#![tactic(auto)]
+
+pub mod mark;
+pub mod program;
+pub mod term;

@@ -1,0 +1,4 @@
+pub mod Expression
+pub mod Environment
+pub mod Evaluation
+pub mod Combination

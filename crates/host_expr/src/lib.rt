@@ -1,0 +1,5 @@
+//! Expressions over signals: their tree and what they evaluate to.
+#![tactic(auto)]
+
+pub mod cell;
+pub mod expr;
