@@ -1,0 +1,4 @@
+//! The commands of `hiphop`.
+#![tactic(auto)]
+
+pub mod split;
