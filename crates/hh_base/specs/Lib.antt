@@ -1,0 +1,4 @@
+pub mod Keyword
+pub mod Name
+pub mod Text
+pub mod Value

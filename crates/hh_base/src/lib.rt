@@ -2,6 +2,8 @@
 #![tactic(auto)]
 
 pub mod item;
+pub mod keyword;
+pub mod memory;
 pub mod name;
 pub mod text;
 pub mod value;

@@ -1,15 +1,17 @@
 //! Kinds and values of signals.
+ghost use Rattle.std.specs.Prelude.{◌≡◌, ◌∷◌, ◌++◌, [], ◌<◌, ◌↔◌, length, take, slice_get, IsTrue, IfOk, OnOk, OnErr};
+ghost use Rattle.std.specs.Option.{option_copied};
+ghost use Rattle.hh_base.specs.Value.{kind_of, default_of};
 
-use crate::text::Text;
+use crate::text::{Text, same_text};
+use std::alloc::Global;
 use std::marker::Model;
 
 /// A place in the input: the number of bytes before it.
 #[derive(Clone, Copy, PartialEq, Eq, PartialOrd, Ord, Debug)]
 pub struct Pos(pub u32);
 
-/// Memory ran out. The one answer that no clause ties to a cause.
-#[derive(Clone, Copy, PartialEq, Eq, Debug)]
-pub struct NoMemory;
+pub use crate::memory::NoMemory;
 
 /// What values a signal carries.
 #[derive(Clone, Copy, PartialEq, Eq, Debug)]
@@ -27,6 +29,56 @@ pub enum Value {
     Int(i64),
     Bool(bool),
     Text(Text),
+}
+
+impl Value {
+    /// The kind of the signals that carry the value.
+    pub fn kind(&self) -> Kind
+        ensures { result ≡ kind_of self.now }
+    {
+        match self {
+            Value::Unit => Kind::Pure,
+            Value::Int(_) => Kind::Int,
+            Value::Bool(_) => Kind::Bool,
+            Value::Text(_) => Kind::Text,
+        }
+    }
+
+    pub fn copy(&self, alloc: Global) -> Result<Value, NoMemory>
+        ensures { IfOk result (λ v. v ≡ self.now) }
+    {
+        Ok(match self {
+            Value::Unit => Value::Unit,
+            Value::Int(number) => Value::Int(*number),
+            Value::Bool(truth) => Value::Bool(*truth),
+            Value::Text(text) => Value::Text(text.copy(alloc)?),
+        })
+    }
+}
+
+/// What a signal of the kind counts as where it has no value: 0, false, the empty text.
+pub fn default_of(alloc: Global, kind: Kind) -> Value
+    ensures { result ≡ default_of kind }
+{
+    match kind {
+        Kind::Pure => Value::Unit,
+        Kind::Int => Value::Int(0),
+        Kind::Bool => Value::Bool(false),
+        Kind::Text => Value::Text(Text::empty(alloc)),
+    }
+}
+
+/// Whether two values are the same.
+pub fn same_value(a: &Value, b: &Value) -> bool
+    ensures { IsTrue result ↔ (a.now ≡ b.now) }
+{
+    match (a, b) {
+        (Value::Unit, Value::Unit) => true,
+        (Value::Int(a), Value::Int(b)) => a == b,
+        (Value::Bool(a), Value::Bool(b)) => a == b,
+        (Value::Text(a), Value::Text(b)) => same_text(a, b),
+        _ => false,
+    }
 }
 
 /// Why an expression or a combination has no value.
@@ -68,4 +120,72 @@ impl Model for Values {
     ghost Value = { List AValue };
 
     ghost view = { λ v. v.values.items };
+}
+
+impl Values {
+    pub fn new(alloc: Global) -> Values
+        ensures { result ≡ [] }
+    {
+        Values {
+            values: Vec::new(alloc),
+        }
+    }
+
+    /// Takes no memory.
+    pub fn from_vec(values: Vec<Value>) -> Values
+        ensures { result ≡ values.items }
+    {
+        Values { values }
+    }
+
+    /// Takes no memory.
+    pub fn into_vec(self) -> Vec<Value>
+        ensures { result.items ≡ self }
+    {
+        self.values
+    }
+
+    /// Adds a value at the end.
+    pub fn push(&mut self, value: Value) -> Result<(), NoMemory>
+        ensures ok { OnOk result (self.new ≡ self.old ++ value ∷ []) }
+        ensures err { OnErr result (self.new ≡ self.old) }
+    {
+        self.values.push(value)?;
+        Ok(())
+    }
+
+    pub fn len(&self) -> usize
+        ensures { result ≡ length self.now }
+    {
+        self.values.len()
+    }
+
+    pub fn is_empty(&self) -> bool
+        ensures { IsTrue result ↔ (self.now ≡ []) }
+    {
+        self.values.is_empty()
+    }
+
+    pub fn as_slice(&self) -> &[Value]
+        ensures { result.now ≡ self.now }
+    {
+        self.values.as_slice()
+    }
+
+    /// The value at this place, or None past the end.
+    pub fn get(&self, at: usize) -> Option<&Value>
+        ensures { option_copied result ≡ slice_get self.now at }
+    {
+        self.values.get(at)
+    }
+
+    pub fn copy(&self, alloc: Global) -> Result<Values, NoMemory>
+        ensures { IfOk result (λ v. v ≡ self.now) }
+    {
+        let mut values = Vec::with_capacity(alloc, self.values.len())?;
+        for value in &self.values {
+            values.push(value.copy(alloc)?)?;
+        }
+        Ok(Values { values })
+    }
 }
