@@ -1,5 +1,5 @@
 -- Kinds fit: in declarations, in the statement and at the async sites, within the limit of each expression. (This project's own.)
-use Rattle.std.specs.Prelude.{◌≡◌, ◌≢◌, ℕ, ◌≤◌, true, Option, Some, None, IsSome, List, [], ◌∷◌, map, slice_get}
+use Rattle.std.specs.Prelude.{◌≡◌, ℕ, ◌≤◌, true, Option, Some, None, List, [], ◌∷◌, map, slice_get}
 use Rattle.std.specs.List.{AllByRecursion}
 use Rattle.hh_base.specs.declared.value.Kind.{Kind}
 use Rattle.hh_base.specs.declared.value.Kind.TheVariants as kind
@@ -7,7 +7,8 @@ use Rattle.hh_base.specs.declared.value.CombineWord.{CombineWord}
 use Rattle.hh_base.specs.declared.value.CombineWord.TheVariants as word
 use Rattle.host_expr.specs.Expression.{Expression}
 use Rattle.host_expr.specs.Combination.{is_valued}
-use Rattle.host_expr.specs.Kinds.{kind_of_value, kind_of_expression}
+use Rattle.hh_base.specs.Value.{kind_of}
+use Rattle.host_expr.specs.Kinds.{kind_of_expression}
 use Rattle.host_expr.specs.Measures.{leaves_and_operators}
 use Rattle.hh_term.specs.declared.program.SignalDecl.{SignalDecl}
 use Rattle.hh_term.specs.Statement.{Statement, Nothing, Pause, Emit, If, Suspend, Seq, Par, Loop, Trap, Exit, Local, Async}
@@ -38,7 +39,7 @@ IsNamed k (Some n) = Unit {0}
 IsNamed k None = k ≡ kind.Pure
 
 pub record SignalFits (d : SignalDecl) : Type 0 where
-  pub first : kind_of_value d.first ≡ d.kind
+  pub first : kind_of d.first ≡ d.kind
   pub combine : WordFits d.kind d.combine
   pub named : IsNamed d.kind d.name
 

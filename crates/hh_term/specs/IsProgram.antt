@@ -1,10 +1,10 @@
 -- What every program keeps: the rules on its declarations, its statement and their limits. (This project's own.)
-use Rattle.std.specs.Prelude.{◌≡◌, ◌≢◌, ℕ, ◌-◌, ◌≤◌, IsSome, List, [], ◌∷◌, length, take, drop}
+use Rattle.std.specs.Prelude.{◌≡◌, ◌≢◌, ◌-◌, ◌≤◌, IsSome, List, [], length, take, drop}
 use Rattle.std.specs.List.{AllByRecursion, range_with_len}
-use Rattle.hh_term.specs.declared.program.Dir.{Dir}
 use Rattle.hh_term.specs.declared.program.Dir.TheVariants as dir
 use Rattle.hh_term.specs.declared.program.SignalDecl.{SignalDecl}
 use Rattle.hh_term.specs.Kernel.{Kernel}
+use Rattle.hh_term.specs.Pairs.{EachPair}
 use Rattle.hh_term.specs.Sizes.{size_of, copied_size_of, height_of, traps_round}
 use Rattle.hh_term.specs.Scopes.{ExitsFit, LoopsWait, locals_of, sites_of, UsesInScope}
 use Rattle.hh_term.specs.Fits.{SignalFits, BodyIsFit, SiteFits, StatementFits}
@@ -15,11 +15,6 @@ interface_of K = take K.interface K.signals
 
 abbrev pub locals_declared : Kernel → List SignalDecl
 locals_declared K = drop K.interface K.signals
-
--- R holds of each item and each later one
-abbrev pub EachPair : {X : Type 0} → (X → X → Type 0) → List X → Type 0
-EachPair R [] = Unit {0}
-EachPair R (x ∷ xs) = AllByRecursion (R x) xs × EachPair R xs
 
 -- interface signals have names, which differ
 pub record NamesDiffer (signals : List SignalDecl) : Type 0 where

@@ -10,7 +10,10 @@ pub mod Touches
 pub mod Step
 pub mod Reaction
 pub mod FirstLanguage
+pub mod Pairs
 pub mod Sizes
 pub mod Scopes
 pub mod Fits
 pub mod IsProgram
+pub mod Marks
+pub mod ControlIn

@@ -1,6 +1,6 @@
 -- Where exits, local signals and async sites stand in a statement. (Berry, The Constructive Semantics of Pure Esterel; the numbers
 -- of locals and sites are this project's own.)
-use Rattle.std.specs.Prelude.{◌≡◌, ℕ, suc, ◌<◌, ◌==◌, Bool, false, ◌||◌, nat_lt, IsTrue, Option, Some, None, List, [], ◌∷◌, ◌++◌, flat_map, slice_get}
+use Rattle.std.specs.Prelude.{◌≡◌, ℕ, suc, ◌<◌, ◌==◌, false, ◌||◌, nat_lt, IsTrue, Option, Some, None, List, [], ◌∷◌, ◌++◌, flat_map}
 use Rattle.std.specs.List.{AllByRecursion, list_any}
 use Rattle.host_expr.specs.Expression.{Expression}
 use Rattle.host_expr.specs.Measures.{signals_read}

@@ -1,5 +1,5 @@
 -- Size, copied size, height and the number of traps round a statement. (This project's own.)
-use Rattle.std.specs.Prelude.{ℕ, suc, ◌+◌, ◌*◌, max, Option, Some, None, List, [], ◌∷◌, sum_by, slice_get}
+use Rattle.std.specs.Prelude.{ℕ, ◌+◌, ◌*◌, max, Option, Some, None, List, sum_by, slice_get}
 use Rattle.hh_base.specs.declared.value.Value.{Value}
 use Rattle.hh_base.specs.declared.value.Value.TheVariants as value
 use Rattle.host_expr.specs.Expression.{Expression}

@@ -1,20 +1,12 @@
 -- The kind of an expression's value, where its kinds fit. (This project's own.)
-use Rattle.std.specs.Prelude.{ℕ, Bool, true, false, cond, Option, Some, None, List, slice_get}
+use Rattle.std.specs.Prelude.{Option, Some, None, List, slice_get}
 use Rattle.hh_base.specs.declared.value.Kind.{Kind}
 use Rattle.hh_base.specs.declared.value.Kind.TheVariants as kind
-use Rattle.hh_base.specs.declared.value.Value.{Value}
-use Rattle.hh_base.specs.declared.value.Value.TheVariants as value
 use Rattle.host_expr.specs.declared.expr.Op.{Op}
 use Rattle.host_expr.specs.declared.expr.Op.TheVariants.{Add}
 use Rattle.host_expr.specs.declared.expr.Rel.{Rel}
 use Rattle.host_expr.specs.declared.expr.Rel.TheVariants.{Eq, Ne}
 use Rattle.host_expr.specs.Expression.{Expression, Int, Flag, Text, Now, Pre, NowVal, PreVal, Arg, Not, Neg, Arith, Compare, And, Or, Choose}
-
-abbrev pub kind_of_value : Value → Kind
-kind_of_value value.Unit = kind.Pure
-kind_of_value (value.Int n) = kind.Int
-kind_of_value (value.Bool b) = kind.Bool
-kind_of_value (value.Text t) = kind.Text
 
 -- a signal's status is a bool
 abbrev pub status_kind : Option Kind → Option Kind

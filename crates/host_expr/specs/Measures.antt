@@ -1,6 +1,6 @@
 -- How large an expression is, and which signals it reads. (This project's own.)
-use Rattle.std.specs.Prelude.{ℕ, ◌+◌, ◌/◌, Option, Some, None, List, [], ◌∷◌, ◌++◌, length}
-use Rattle.host_expr.specs.Expression.{Expression, Int, Flag, Text, Now, Pre, NowVal, PreVal, Arg, Not, Neg, Arith, Compare, And, Or, Choose}
+use Rattle.std.specs.Prelude.{ℕ, ◌+◌, ◌/◌, List, [], ◌∷◌, ◌++◌, length}
+use Rattle.host_expr.specs.Expression.{Expression, Text, Now, Pre, NowVal, PreVal, Not, Neg, Arith, Compare, And, Or, Choose}
 
 -- 64 bytes of text, begun
 abbrev pub text_blocks : List ℕ → ℕ
