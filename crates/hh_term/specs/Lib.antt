@@ -2,6 +2,7 @@ pub mod Statement
 pub mod Selection
 pub mod Kernel
 pub mod Views
+pub mod Assembled
 pub mod Viewed
 pub mod Codes
 pub mod MustCan
@@ -9,3 +10,10 @@ pub mod Touches
 pub mod Step
 pub mod Reaction
 pub mod FirstLanguage
+pub mod Pairs
+pub mod Sizes
+pub mod Scopes
+pub mod Fits
+pub mod IsProgram
+pub mod Marks
+pub mod ControlIn

@@ -1,5 +1,8 @@
 //! Where control rests in a statement between two reactions.
 
+ghost use Rattle.std.specs.Prelude.{◌≡◌};
+
+use crate::program::Program;
 use hh_base::item::Items;
 use hh_base::value::{Value, Values};
 
@@ -32,4 +35,43 @@ pub enum Control {
     Fresh,
     At(Mark),
     Ended,
+}
+
+/// Where the control of a program rests, and the answers that its instances hold.
+#[derive(Drop)]
+pub struct Marked {
+    control: Control,
+}
+
+impl Marked {
+    ghost use Rattle.hh_term.specs.Kernel.{Kernel};
+    ghost use Rattle.hh_term.specs.Viewed.{kernel_of};
+    ghost use Rattle.hh_term.specs.Views.{control_of};
+    ghost use Rattle.hh_term.specs.Marks.{IsControlOf, IdsDiffer};
+    ghost use Rattle.hh_term.specs.Selection.{Fresh};
+    ghost use Rattle.hh_term.specs.ControlIn.{control_in};
+
+    /// A program that has not started. Takes no memory.
+    pub fn boot(_program: &Program) -> Marked
+        ensures { control_in result ≡ Fresh }
+    {
+        Marked {
+            control: Control::Fresh,
+        }
+    }
+
+    /// A program whose control rests there. Takes no memory.
+    pub fn new(_program: &Program, control: Control) -> Marked
+        requires of_program { ∥ IsControlOf (kernel_of _program.now).statement (control_of control) ∥₁ }
+        requires ids_differ { ∥ IdsDiffer (control_of control) ∥₁ }
+        ensures { control_in result ≡ control_of control }
+    {
+        Marked { control }
+    }
+
+    pub fn control(&self) -> &Control
+        ensures { control_of result.now ≡ control_in self.now }
+    {
+        &self.control
+    }
 }

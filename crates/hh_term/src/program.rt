@@ -1,5 +1,9 @@
 //! Kernel programs with their declarations.
 
+ghost use Rattle.std.specs.Prelude.{◌≡◌};
+ghost use Rattle.hh_term.specs.Assembled.{kernel_from};
+ghost use Rattle.hh_term.specs.IsProgram.{IsProgram};
+
 use crate::term::Term;
 use hh_base::name::Name;
 use hh_base::text::Text;
@@ -65,7 +69,7 @@ pub struct Site {
 }
 
 /// A kernel program: its signals, of which the first `interface` are its interface, its bodies, its async
-/// sites and its statement.
+/// sites and its statement. Every program keeps the rules of `IsProgram`.
 #[derive(Drop)]
 pub struct Program {
     signals: Vec<SignalDecl>,
@@ -73,4 +77,65 @@ pub struct Program {
     bodies: Vec<BodyDecl>,
     sites: Vec<Site>,
     term: Term,
+    pub ghost rules: { ∥ IsProgram (kernel_from signals.items interface bodies.items sites.items term) ∥₁ },
+}
+
+impl Program {
+    ghost use Rattle.std.specs.Prelude.{map};
+    ghost use Rattle.hh_term.specs.Kernel.{Kernel};
+    ghost use Rattle.hh_term.specs.Assembled.{body_of, site_of};
+    ghost use Rattle.hh_term.specs.Views.{statement_of};
+    ghost use Rattle.hh_term.specs.Viewed.{kernel_of};
+
+    /// The program of these declarations and this statement. Takes no memory.
+    pub fn new(
+        signals: Vec<SignalDecl>,
+        interface: u32,
+        bodies: Vec<BodyDecl>,
+        sites: Vec<Site>,
+        term: Term,
+    ) -> Program
+        requires { ∥ IsProgram (kernel_from signals.items interface bodies.items sites.items term) ∥₁ }
+        ensures { kernel_of result ≡ kernel_from signals.items interface bodies.items sites.items term }
+    {
+        Program {
+            signals,
+            interface,
+            bodies,
+            sites,
+            term,
+        }
+    }
+
+    /// The signals: the interface in its order, then the locals in the order of the statement.
+    pub fn signals(&self) -> &[SignalDecl]
+        ensures { result.now ≡ (kernel_of self.now).signals }
+    {
+        &self.signals
+    }
+
+    /// How many of the signals are the interface.
+    pub fn interface_len(&self) -> u32
+        ensures { result ≡ (kernel_of self.now).interface }
+    {
+        self.interface
+    }
+
+    pub fn bodies(&self) -> &[BodyDecl]
+        ensures { map body_of result.now ≡ (kernel_of self.now).bodies }
+    {
+        &self.bodies
+    }
+
+    pub fn sites(&self) -> &[Site]
+        ensures { map site_of result.now ≡ (kernel_of self.now).sites }
+    {
+        &self.sites
+    }
+
+    pub fn term(&self) -> &Term
+        ensures { statement_of result.now ≡ (kernel_of self.now).statement }
+    {
+        &self.term
+    }
 }
