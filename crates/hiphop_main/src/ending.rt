@@ -1,0 +1,51 @@
+//! How a command ends.
+
+ghost use Rattle.std.specs.Prelude.{◌≡◌};
+
+use hh_base::value::Pos;
+
+/// Why a module text is refused.
+#[derive(Clone, Copy, PartialEq, Eq, Debug)]
+pub enum ModuleKind {
+    /// The input is none of the first language, the part of the language that is built so far.
+    NotBuilt,
+}
+
+/// Why a command ended as it did. A module is refused at a position, for a kind, with the number that
+/// passed a limit, or 0.
+#[derive(Clone, Copy, PartialEq, Eq, Debug)]
+pub enum Cause {
+    Fine,
+    ReadFault,
+    Usage,
+    Module(Pos, ModuleKind, u64),
+    NoMemory,
+    WriteFault,
+    TooLong,
+}
+
+/// The exit status of a command, and its cause.
+#[derive(Clone, Copy, PartialEq, Eq, Debug)]
+pub struct Outcome {
+    pub status: u8,
+    pub cause: Cause,
+}
+
+impl Cause {
+    ghost use Rattle.hiphop_main.specs.Status as spec;
+
+    /// The exit status that stands for the cause.
+    pub fn status(self) -> u8
+        ensures { result ≡ spec.status_of self }
+    {
+        match self {
+            Cause::Fine => 0,
+            Cause::ReadFault => 1,
+            Cause::Usage => 2,
+            Cause::Module(..) => 3,
+            Cause::NoMemory => 5,
+            Cause::WriteFault => 6,
+            Cause::TooLong => 8,
+        }
+    }
+}
