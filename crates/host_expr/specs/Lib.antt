@@ -2,3 +2,5 @@ pub mod Expression
 pub mod Environment
 pub mod Evaluation
 pub mod Combination
+pub mod Knows
+pub mod Reordering
