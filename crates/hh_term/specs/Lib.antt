@@ -8,4 +8,6 @@ pub mod MustCan
 pub mod Touches
 pub mod Step
 pub mod Reaction
+pub mod Knows
+pub mod Lawful
 pub mod FirstLanguage
