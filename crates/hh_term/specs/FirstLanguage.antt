@@ -1,6 +1,6 @@
 -- The programs of the first language: pure interface signals only, and statements made of nothing, pause, emission of an output,
 -- test of an input and sequence. (This project's own.)
-use Rattle.std.specs.Prelude.{◌≡◌, ℕ, Option, Some, None, List, [], slice_get, length}
+use Rattle.std.specs.Prelude.{◌≡◌, ℕ, Some, None, List, [], slice_get, length}
 use Rattle.std.specs.List.{AllByRecursion}
 use Rattle.hh_base.specs.declared.value.Kind.TheVariants as kind
 use Rattle.hh_base.specs.declared.value.Value.TheVariants as value

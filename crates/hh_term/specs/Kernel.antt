@@ -1,6 +1,6 @@
 -- A kernel program as definitions see it: signals, the first `interface` of them being its interface, bodies, async sites and
 -- the statement. (This project's own.)
-use Rattle.std.specs.Prelude.{ℕ, Bool, Option, Some, None, List, [], slice_get}
+use Rattle.std.specs.Prelude.{ℕ, Option, Some, None, List, [], slice_get}
 use Rattle.hh_base.specs.declared.value.Pos.{Pos}
 use Rattle.hh_base.specs.declared.value.Kind.{Kind}
 use Rattle.hh_base.specs.declared.value.Kind.TheVariants as kind

@@ -9,6 +9,8 @@ pub mod MustCan
 pub mod Touches
 pub mod Step
 pub mod Reaction
+pub mod Knows
+pub mod Lawful
 pub mod FirstLanguage
 pub mod Pairs
 pub mod Sizes

@@ -18,7 +18,7 @@ use Rattle.host_expr.specs.Environment.{Env, is_known, unsolved, put}
 use Rattle.host_expr.specs.Evaluation.{eval_of, truth}
 use Rattle.host_expr.specs.Combination.{combined, counts_as}
 use Rattle.hh_term.specs.Statement.{Statement, Nothing, Pause, Emit, If, Suspend, Seq, Par, Loop, Trap, Exit, Local, Async}
-use Rattle.hh_term.specs.Selection.{Selection, AtPause, AtAsync, First, Second, Both, Inside, Scope, Task, Start, Resume}
+use Rattle.hh_term.specs.Selection.{AtAsync, First, Second, Both, Inside, Scope, Task, Start, Resume}
 use Rattle.hh_term.specs.Kernel.{Kernel, kind_at, first_at, word_at, position_at, target_at, arguments_at, params_at}
 use Rattle.hh_term.specs.Codes.{CodeSet, only, either, in_turn, greater_of, lowered}
 

@@ -1,6 +1,6 @@
 -- A reaction of a program: the interface signals are solved as the outermost scopes, a given input is one more emission, and a
 -- reaction is refused or completes. (Berry's reaction; the refusals and what is kept of values are this project's own.)
-use Rattle.std.specs.Prelude.{ℕ, zero, suc, Bool, true, false, cond, ◌&&◌, ◌||◌, ◌==◌, nat_lt, Option, Some, None, List, [], ◌∷◌, ◌++◌, length, map, fold, take}
+use Rattle.std.specs.Prelude.{ℕ, suc, Bool, false, cond, ◌&&◌, ◌||◌, ◌==◌, nat_lt, Option, Some, None, List, [], ◌∷◌, ◌++◌, length, map, fold, take}
 use Rattle.hh_base.specs.declared.value.Pos.{Pos}
 use Rattle.hh_base.specs.declared.value.Value.{Value}
 use Rattle.hh_base.specs.declared.value.FaultKind.{FaultKind}
@@ -9,7 +9,7 @@ use Rattle.host_expr.specs.declared.cell.Cell.TheVariants as cell
 use Rattle.host_expr.specs.declared.cell.SigCell.{SigCell}
 use Rattle.host_expr.specs.Environment.{Env, is_known, is_decided, is_present, unsolved, put, blank}
 use Rattle.hh_term.specs.Statement.{Statement}
-use Rattle.hh_term.specs.Selection.{Selection, Control, Fresh, At, Ended, Start, Resume}
+use Rattle.hh_term.specs.Selection.{Control, Fresh, At, Ended, Start, Resume}
 use Rattle.hh_term.specs.declared.program.SignalDecl.{SignalDecl}
 use Rattle.hh_term.specs.Kernel.{Kernel}
 use Rattle.hh_term.specs.MustCan.{Table, table_of, MustCan, Bag, Executed, must_can, solve, hide, cells_of}

@@ -16,7 +16,7 @@ use Rattle.host_expr.specs.Evaluation.{eval_of, truth}
 use Rattle.host_expr.specs.Combination.{counts_as, is_several, is_overflowed}
 use Rattle.hh_term.specs.Statement.{Statement, Nothing, Pause, Emit, If, Suspend, Seq, Par, Loop, Trap, Exit, Local, Async}
 use Rattle.hh_term.specs.Selection.{Selection, AtPause, AtAsync, First, Second, Both, Inside, Scope, Task, Start, Resume}
-use Rattle.hh_term.specs.MustCan.{Table, MustCan, Bag, Executed, must_can, solve, cells_of, without, emitted, answer_bag, answer_code, all_known, lower}
+use Rattle.hh_term.specs.MustCan.{Table, MustCan, Bag, Executed, must_can, solve, cells_of, without, emitted, answer_bag, all_known, lower}
 use Rattle.hh_term.specs.Touches.{Touch, stopped, held_mark, held_touches}
 
 pub record Stepped : Type 0 where

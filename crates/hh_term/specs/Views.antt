@@ -1,5 +1,4 @@
 -- The statement and the mark that a term and a mark of the code stand for.
-use Rattle.std.specs.Prelude.{ℕ}
 use Rattle.host_expr.specs.Expression.{expression_of, optional_expression}
 use Rattle.hh_term.specs.declared.term.Term.{Term}
 use Rattle.hh_term.specs.declared.term.TermNode.{TermNode}

@@ -1,5 +1,5 @@
 -- Several emissions of a signal in one reaction make one value, whatever their order. (This project's own, after the combine functions of Esterel and HipHop.js.)
-use Rattle.std.specs.Prelude.{ℕ, ◌^◌, Bool, true, false, ◌&&◌, ◌||◌, cond, nat_lt, Option, Some, None, List, [], ◌∷◌, map, ℤ, pos, negsuc, ◌+ℤ◌, if◌then◌else◌}
+use Rattle.std.specs.Prelude.{◌^◌, Bool, true, false, ◌&&◌, ◌||◌, cond, nat_lt, Option, Some, None, List, [], ◌∷◌, ℤ, pos, negsuc, ◌+ℤ◌, if◌then◌else◌}
 use Rattle.std.specs.Int.{int_min, int_max}
 use Rattle.hh_base.specs.declared.value.Kind.{Kind}
 use Rattle.hh_base.specs.declared.value.Kind.TheVariants as kind

@@ -2,7 +2,7 @@
 -- (Berry, The Constructive Semantics of Pure Esterel, widened by values and by the previous reaction.)
 use Rattle.std.specs.Prelude.{ℕ, Bool, true, false, cond, ◌==◌, List, slice_index_or}
 use Rattle.hh_base.specs.declared.value.Tri.{Tri}
-use Rattle.hh_base.specs.declared.value.Tri.TheVariants.{Unknown, Zero, One}
+use Rattle.hh_base.specs.declared.value.Tri.TheVariants.{Unknown, One}
 use Rattle.hh_base.specs.declared.value.Value.{Value}
 use Rattle.hh_base.specs.declared.value.Value.TheVariants as value
 use Rattle.host_expr.specs.declared.cell.Cell.{Cell}

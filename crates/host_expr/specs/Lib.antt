@@ -4,3 +4,5 @@ pub mod Evaluation
 pub mod Combination
 pub mod Kinds
 pub mod Measures
+pub mod Knows
+pub mod Reordering

@@ -1,0 +1,9 @@
+pub mod Embedding
+pub mod CodeSets
+pub mod Rises
+pub mod Rounds
+pub mod WithinCan
+pub mod MustCanLaws
+pub mod Standstill
+pub mod Stepping
+pub mod StaticCodes

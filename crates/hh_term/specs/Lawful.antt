@@ -1,0 +1,57 @@
+-- The laws of Must, Can, Solve and Step, as statements. The public functions of `laws` have them as contracts. (Berry, The
+-- Constructive Semantics of Pure Esterel; with values, previous status and value, faults and async they are this project's own.)
+use Rattle.std.specs.Prelude.{◌≡◌, ℕ, Bool, true, false, Some}
+use Rattle.hh_base.specs.declared.value.Value.{Value}
+use Rattle.host_expr.specs.Environment.{Env, unsolved}
+use Rattle.host_expr.specs.Knows.{EnvBelow}
+use Rattle.hh_term.specs.Statement.{Statement, If, Suspend, Seq, Par, Loop, Trap, Local}
+use Rattle.hh_term.specs.Selection.{Task, Start}
+use Rattle.hh_term.specs.Codes.{static_codes}
+use Rattle.hh_term.specs.MustCan.{Table, Index, Executed, Possible, must_can, round, solve}
+use Rattle.hh_term.specs.Step.{Stepped, step}
+use Rattle.hh_term.specs.Knows.{IndexBelow, MustCanBelow, MustWithinCan, NothingSure}
+
+-- Where more is known of the signals, or of what is executed, more must be done and less can be done.
+abbrev pub MustExtendsCanShrinks : Type 0
+MustExtendsCanShrinks =
+    (T : Table) (p : Statement) (t : Task) (i j : Index) (E F : Env) →
+    IndexBelow i j → EnvBelow E F → MustCanBelow (must_can T p t i E) (must_can T p t j F)
+
+-- What must be done can be done.
+abbrev pub MustIsWithinCan : Type 0
+MustIsWithinCan = (T : Table) (p : Statement) (t : Task) (i : Index) (E : Env) → MustWithinCan (must_can T p t i E)
+
+-- Nothing must be done where the statement is only possible.
+abbrev pub NothingIsSureWherePossible : Type 0
+NothingIsSureWherePossible = (T : Table) (p : Statement) (t : Task) (E : Env) → NothingSure (must_can T p t Possible E)
+
+-- A third round of Solve changes nothing.
+abbrev pub TwoRoundsStandStill : Type 0
+TwoRoundsStandStill =
+    (T : Table) (p : Statement) (t : Task) (i : Index) (s : ℕ) (E : Env) (pre : Bool) (preval : Value) →
+    round T s (must_can T p t i) E (solve T s (must_can T p t i) E (unsolved pre preval)) ≡ solve T s (must_can T p t i) E (unsolved pre preval)
+
+-- A defined step emits what must be emitted.
+abbrev pub StepHasTheBagOfMust : Type 0
+StepHasTheBagOfMust = (T : Table) (p : Statement) (t : Task) (E : Env) (a : Stepped) → step T p t E ≡ Some a → (must_can T p t Executed E).must ≡ a.bag
+
+-- A defined step completes with the code of Must.
+abbrev pub StepHasTheCodeOfMust : Type 0
+StepHasTheCodeOfMust = (T : Table) (p : Statement) (t : Task) (E : Env) (a : Stepped) → step T p t E ≡ Some a → (must_can T p t Executed E).code ≡ Some a.code
+
+-- no loop has a body that may end in the reaction in which it starts
+abbrev pub LoopsWait : Statement → Type 0
+LoopsWait (If e p q) = LoopsWait p × LoopsWait q
+LoopsWait (Suspend e p) = LoopsWait p
+LoopsWait (Seq p q) = LoopsWait p × LoopsWait q
+LoopsWait (Par p q) = LoopsWait p × LoopsWait q
+LoopsWait (Loop p) = (static_codes p 0 ≡ false) × LoopsWait p
+LoopsWait (Trap p) = LoopsWait p
+LoopsWait (Local s p) = LoopsWait p
+LoopsWait _ = Unit {0}
+
+-- A started statement can complete only with its static codes.
+abbrev pub StartedCodesAreStatic : Type 0
+StartedCodesAreStatic =
+    (T : Table) (p : Statement) (i : Index) (E : Env) → LoopsWait p →
+    (c : ℕ) → (must_can T p Start i E).codes c ≡ true → static_codes p c ≡ true

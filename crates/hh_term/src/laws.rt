@@ -1,0 +1,35 @@
+//! Laws of Must, Can, Solve and Step. Each call does nothing; its contract is the law.
+
+ghost use Rattle.hh_term.specs.Lawful.{MustExtendsCanShrinks, MustIsWithinCan, NothingIsSureWherePossible, TwoRoundsStandStill};
+ghost use Rattle.hh_term.specs.Lawful.{StepHasTheBagOfMust, StepHasTheCodeOfMust, StartedCodesAreStatic};
+
+/// Where the environment or the index knows more, Must extends and Can shrinks.
+pub fn knows_more()
+    ensures { MustExtendsCanShrinks }
+{}
+
+/// What must be done can be done.
+pub fn must_within_can()
+    ensures { MustIsWithinCan }
+{}
+
+/// Where a statement is only possible, nothing is sure.
+pub fn nothing_sure()
+    ensures { NothingIsSureWherePossible }
+{}
+
+/// Two rounds of Solve reach the standstill.
+pub fn two_rounds()
+    ensures { TwoRoundsStandStill }
+{}
+
+/// A defined step has the bag and the code of Must.
+pub fn step_is_must()
+    ensures bag { StepHasTheBagOfMust }
+    ensures code { StepHasTheCodeOfMust }
+{}
+
+/// The codes of a started statement lie in its static codes.
+pub fn started_codes()
+    ensures { StartedCodesAreStatic }
+{}

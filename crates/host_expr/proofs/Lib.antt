@@ -1,0 +1,4 @@
+pub mod Tests
+pub mod Information
+pub mod Evaluating
+pub mod Reordered
