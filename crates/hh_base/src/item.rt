@@ -1,11 +1,11 @@
 //! Answers that wait in an instance's mark.
 
-ghost use Rattle.std.specs.Prelude.{◌≡◌, ◌∷◌, ◌++◌, [], ◌<◌, ◌↔◌, length, slice_get, take, IsTrue, IfOk, OnOk, OnErr};
+ghost use Rattle.std.specs.Prelude.{◌≡◌, ◌∷◌, ◌++◌, [], ◌<◌, ◌↔◌, length, slice_get, take, IsTrue, IfOk, IfErr, OnOk, OnErr};
 ghost use Rattle.std.specs.Option.{option_copied};
 
 use crate::memory::NoMemory;
 use crate::value::Value;
-use std::alloc::Global;
+use std::alloc::{AllocFailed, Global};
 use std::marker::Model;
 
 /// An answer to a running instance: its value, and whether it is the last one.
@@ -71,6 +71,15 @@ impl Items {
     {
         self.items.push(item)?;
         Ok(())
+    }
+
+    /// Adds an item at the end, or gives it back where memory ran out.
+    pub fn try_push(&mut self, item: Item) -> Result<(), AllocFailed<Item>>
+        ensures ok { OnOk result (self.new ≡ self.old ++ item ∷ []) }
+        ensures err { OnErr result (self.new ≡ self.old) }
+        ensures returned { IfErr result (λ e. e.value ≡ item) }
+    {
+        self.items.push(item)
     }
 
     pub fn len(&self) -> usize

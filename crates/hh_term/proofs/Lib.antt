@@ -7,3 +7,5 @@ pub mod MustCanLaws
 pub mod Standstill
 pub mod Stepping
 pub mod StaticCodes
+pub mod FirstStatements
+pub mod FirstPrograms

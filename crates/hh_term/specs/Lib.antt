@@ -19,3 +19,4 @@ pub mod Fits
 pub mod IsProgram
 pub mod Marks
 pub mod ControlIn
+pub mod Entering

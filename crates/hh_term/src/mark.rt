@@ -1,10 +1,11 @@
 //! Where control rests in a statement between two reactions.
 
-ghost use Rattle.std.specs.Prelude.{◌≡◌};
+ghost use Rattle.std.specs.Prelude.{◌≡◌, IfOk};
 
 use crate::program::Program;
-use hh_base::item::Items;
-use hh_base::value::{Value, Values};
+use hh_base::item::{Item, Items};
+use hh_base::value::{NoMemory, Value, Values};
+use std::alloc::Global;
 
 /// A running instance of an async statement: its id, the values of its arguments, the answers that entered
 /// and were not used yet, and whether it was suspended in its last reaction.
@@ -14,6 +15,19 @@ pub struct AsyncMark {
     pub args: Values,
     pub queue: Items,
     pub suspended: bool,
+}
+
+impl AsyncMark {
+    pub fn copy(&self, alloc: Global) -> Result<AsyncMark, NoMemory>
+        ensures { IfOk result (λ a. a ≡ self.now) }
+    {
+        Ok(AsyncMark {
+            id: self.id,
+            args: self.args.copy(alloc)?,
+            queue: self.queue.copy(alloc)?,
+            suspended: self.suspended,
+        })
+    }
 }
 
 /// Where control rests: in a pause, in an async, in one part of a statement or in both, or inside a
@@ -29,12 +43,50 @@ pub enum Mark {
     Local(Box<Mark>, bool, Value),
 }
 
+impl Mark {
+    ghost use Rattle.hh_term.specs.Views.{selection_of};
+
+    pub fn copy(&self, alloc: Global) -> Result<Mark, NoMemory>
+        ensures { IfOk result (λ m. selection_of m ≡ selection_of self.now) }
+    {
+        Ok(match self {
+            Mark::Pause => Mark::Pause,
+            Mark::Async(a) => Mark::Async(a.copy(alloc)?),
+            Mark::First(m) => Mark::First(Box::new(alloc, m.copy(alloc)?)?),
+            Mark::Second(m) => Mark::Second(Box::new(alloc, m.copy(alloc)?)?),
+            Mark::Both(m, n) => {
+                let first = Box::new(alloc, m.copy(alloc)?)?;
+                Mark::Both(first, Box::new(alloc, n.copy(alloc)?)?)
+            }
+            Mark::Inside(m) => Mark::Inside(Box::new(alloc, m.copy(alloc)?)?),
+            Mark::Local(m, status, value) => {
+                let body = Box::new(alloc, m.copy(alloc)?)?;
+                Mark::Local(body, *status, value.copy(alloc)?)
+            }
+        })
+    }
+}
+
 /// Whether a program has started, where its control rests, or that it has ended.
 #[derive(Drop)]
 pub enum Control {
     Fresh,
     At(Mark),
     Ended,
+}
+
+impl Control {
+    ghost use Rattle.hh_term.specs.Views.{control_of};
+
+    pub fn copy(&self, alloc: Global) -> Result<Control, NoMemory>
+        ensures { IfOk result (λ c. control_of c ≡ control_of self.now) }
+    {
+        Ok(match self {
+            Control::Fresh => Control::Fresh,
+            Control::At(m) => Control::At(m.copy(alloc)?),
+            Control::Ended => Control::Ended,
+        })
+    }
 }
 
 /// Where the control of a program rests, and the answers that its instances hold.
@@ -73,5 +125,13 @@ impl Marked {
         ensures { control_of result.now ≡ control_in self.now }
     {
         &self.control
+    }
+
+    pub fn copy(&self, alloc: Global) -> Result<Marked, NoMemory>
+        ensures { IfOk result (λ m. control_in m ≡ control_in self.now) }
+    {
+        Ok(Marked {
+            control: self.control.copy(alloc)?,
+        })
     }
 }

@@ -1,14 +1,15 @@
 //! Kernel programs with their declarations.
 
-ghost use Rattle.std.specs.Prelude.{◌≡◌};
+ghost use Rattle.std.specs.Prelude.{◌≡◌, IfOk};
 ghost use Rattle.hh_term.specs.Assembled.{kernel_from};
 ghost use Rattle.hh_term.specs.IsProgram.{IsProgram};
 
 use crate::term::Term;
 use hh_base::name::Name;
 use hh_base::text::Text;
-use hh_base::value::{CombineWord, Kind, Pos, Value};
+use hh_base::value::{CombineWord, Kind, NoMemory, Pos, Value};
 use host_expr::expr::Expr;
+use std::alloc::Global;
 use std::marker::Model;
 
 /// Who emits a signal: the environment, the program, both, or the program behind its interface.
@@ -31,10 +32,54 @@ pub struct SignalDecl {
     pub pos: Pos,
 }
 
+impl SignalDecl {
+    pub fn copy(&self, alloc: Global) -> Result<SignalDecl, NoMemory>
+        ensures { IfOk result (λ d. d ≡ self.now) }
+    {
+        let name = match &self.name {
+            Some(name) => Some(name.copy(alloc)?),
+            None => None,
+        };
+        Ok(SignalDecl {
+            name,
+            dir: self.dir,
+            kind: self.kind,
+            first: self.first.copy(alloc)?,
+            combine: self.combine,
+            pos: self.pos,
+        })
+    }
+}
+
+fn copy_signals(alloc: Global, signals: &[SignalDecl]) -> Result<Vec<SignalDecl>, NoMemory>
+    ensures { IfOk result (λ v. v.items ≡ signals.now) }
+{
+    let mut copies = Vec::with_capacity(alloc, signals.len())?;
+    for signal in signals {
+        copies.push(signal.copy(alloc)?)?;
+    }
+    Ok(copies)
+}
+
 /// Kinds in order. Contracts see the list.
 #[derive(Drop)]
 pub struct Kinds {
     kinds: Vec<Kind>,
+}
+
+impl Kinds {
+    /// Takes no memory.
+    pub fn from_vec(kinds: Vec<Kind>) -> Kinds
+        ensures { result ≡ kinds.items }
+    {
+        Kinds { kinds }
+    }
+
+    pub fn as_slice(&self) -> &[Kind]
+        ensures { result.now ≡ self.now }
+    {
+        &self.kinds
+    }
 }
 
 impl Model for Kinds {
@@ -80,12 +125,43 @@ pub struct Program {
     pub ghost rules: { ∥ IsProgram (kernel_from signals.items interface bodies.items sites.items term) ∥₁ },
 }
 
+/// The interface of a program: its signals in order. Contracts see the list.
+#[derive(Drop)]
+pub struct Interface {
+    signals: Vec<SignalDecl>,
+}
+
+impl Model for Interface {
+    ghost use Rattle.std.specs.Prelude.{List};
+    ghost use Rattle.hh_term.specs.declared.program.SignalDecl.{SignalDecl as ASignal};
+
+    ghost Value = { List ASignal };
+
+    ghost view = { λ i. i.signals.items };
+}
+
+impl Interface {
+    /// Takes no memory.
+    pub fn from_vec(signals: Vec<SignalDecl>) -> Interface
+        ensures { result ≡ signals.items }
+    {
+        Interface { signals }
+    }
+
+    pub fn signals(&self) -> &[SignalDecl]
+        ensures { result.now ≡ self.now }
+    {
+        &self.signals
+    }
+}
+
 impl Program {
     ghost use Rattle.std.specs.Prelude.{map};
     ghost use Rattle.hh_term.specs.Kernel.{Kernel};
     ghost use Rattle.hh_term.specs.Assembled.{body_of, site_of};
     ghost use Rattle.hh_term.specs.Views.{statement_of};
     ghost use Rattle.hh_term.specs.Viewed.{kernel_of};
+    ghost use Rattle.hh_term.specs.IsProgram.{interface_of};
 
     /// The program of these declarations and this statement. Takes no memory.
     pub fn new(
@@ -137,5 +213,15 @@ impl Program {
         ensures { statement_of result.now ≡ (kernel_of self.now).statement }
     {
         &self.term
+    }
+
+    /// The declarations of the interface.
+    pub fn interface(&self, alloc: Global) -> Result<Interface, NoMemory>
+        ensures { IfOk result (λ i. i ≡ interface_of (kernel_of self.now)) }
+    {
+        let signals = &self.signals[..self.interface as usize];
+        Ok(Interface {
+            signals: copy_signals(alloc, signals)?,
+        })
     }
 }
