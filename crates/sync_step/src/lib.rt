@@ -1,0 +1,4 @@
+//! Reactions of programs of the first language.
+#![tactic(auto)]
+
+mod walk;
