@@ -3,6 +3,7 @@
 use Rattle.std.specs.Prelude.{ℕ, zero, suc, Bool, true, false, cond, Option, Some, None, List, [], ◌∷◌, ◌++◌}
 use Rattle.host_expr.specs.Expression.{Expression, Now}
 use Rattle.hh_term.specs.Statement.{Statement, Nothing, Pause, Emit, If, Seq}
+use Rattle.hh_term.specs.Step.{mark_map}
 use Rattle.hh_term.specs.Selection.{Selection, AtPause, First, Second, Control, Fresh, At, Ended, Task, Start, Resume}
 
 pub record Walked : Type 0 where
@@ -19,13 +20,9 @@ rests = record { emitted = []; code = 1; next = Some AtPause }
 abbrev pub emits : ℕ → Walked
 emits s = record { emitted = s ∷ []; code = 0; next = None }
 
-abbrev pub mark_in : (Selection → Selection) → Option Selection → Option Selection
-mark_in f (Some m) = Some (f m)
-mark_in f None = None
-
 -- the walk of a part, its mark wrapped
 abbrev pub part : (Selection → Selection) → Walked → Walked
-part f a = record a { next = mark_in f a.next }
+part f a = record a { next = mark_map f a.next }
 
 abbrev pub emitting : List ℕ → Walked → Walked
 emitting ss a = record a { emitted = ss ++ a.emitted }

@@ -4,7 +4,8 @@ ghost use Rattle.std.specs.Prelude.{◌≡◌, IfOk};
 ghost use Rattle.host_expr.specs.Expression.{expression_of};
 ghost use Rattle.hh_term.specs.Selection.{First as AtFirst, Second as AtSecond, Start, Resume};
 ghost use Rattle.hh_term.specs.Views.{statement_of, selection_of};
-ghost use Rattle.sync_step.specs.Walk.{walk, emits, mark_in, test_holds};
+ghost use Rattle.hh_term.specs.Step.{mark_map};
+ghost use Rattle.sync_step.specs.Walk.{walk, test_holds};
 ghost use Rattle.sync_step.specs.Walk.{ends as walk_ends, rests as walk_rests};
 ghost use Rattle.sync_step.specs.Walking.{Shows, flag_of, optional_selection};
 
@@ -144,7 +145,7 @@ fn flag_at(flags: &[bool], s: u32) -> bool
 
 fn in_first(alloc: Global, part: Completion) -> Result<Completion, NoMemory>
     ensures code { IfOk result (λ r. r.code ≡ part.code) }
-    ensures next { IfOk result (λ r. optional_selection r.next ≡ mark_in AtFirst (optional_selection part.next)) }
+    ensures next { IfOk result (λ r. optional_selection r.next ≡ mark_map AtFirst (optional_selection part.next)) }
 {
     let code = part.code;
     match part.next {
@@ -161,7 +162,7 @@ fn in_first(alloc: Global, part: Completion) -> Result<Completion, NoMemory>
 
 fn in_second(alloc: Global, part: Completion) -> Result<Completion, NoMemory>
     ensures code { IfOk result (λ r. r.code ≡ part.code) }
-    ensures next { IfOk result (λ r. optional_selection r.next ≡ mark_in AtSecond (optional_selection part.next)) }
+    ensures next { IfOk result (λ r. optional_selection r.next ≡ mark_map AtSecond (optional_selection part.next)) }
 {
     let code = part.code;
     match part.next {
