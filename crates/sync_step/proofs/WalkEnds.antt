@@ -9,14 +9,14 @@ use Rattle.hh_term.specs.Selection.{Selection, AtPause, First, Second, Task, Sta
 use Rattle.hh_term.specs.FirstLanguage.{IsFirstStatement, HasDirection}
 use Rattle.hh_term.specs.Step.{mark_map}
 use Rattle.hh_term.specs.Touches.{marks_numbered}
-use Rattle.sync_step.specs.Rests.{RestsIn}
+use Rattle.hh_term.specs.Marks.{IsMarkOf}
 use Rattle.sync_step.specs.Walk.{Walked, ends, rests, emits, part, followed, walk}
 use Rattle.sync_step.proofs.WalkLaws.{IsTaskOf}
 
 -- no mark, or one of the statement
 abbrev pub NextIn : Statement → Option Selection → Type 0
 NextIn p None = Unit {0}
-NextIn p (Some m) = RestsIn p m
+NextIn p (Some m) = IsMarkOf p m
 
 -- each is an output
 abbrev pub AreOutputs : List SignalDecl → List ℕ → Type 0
@@ -74,7 +74,7 @@ walk_keeps signals given (Seq p q) (Resume _) h k = absurd k
 walk_keeps signals given _ t h k = absurd h
 
 -- marks of the first language have no instance to number
-pub numbered_same : (signals : List SignalDecl) (last : ℕ) (p : Statement) (m : Selection) → IsFirstStatement signals p → RestsIn p m → (marks_numbered last m).0 ≡ m
+pub numbered_same : (signals : List SignalDecl) (last : ℕ) (p : Statement) (m : Selection) → IsFirstStatement signals p → IsMarkOf p m → (marks_numbered last m).0 ≡ m
 numbered_same signals last Pause AtPause h k = refl
 numbered_same signals last Pause _ h k = absurd k
 numbered_same signals last (If (Now s) p q) (First m) h k = ap First (numbered_same signals last p m h.1 k)

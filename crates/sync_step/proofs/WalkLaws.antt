@@ -19,7 +19,7 @@ use Rattle.hh_term.specs.FirstLanguage.{IsFirstStatement, HasDirection}
 use Rattle.hh_term.specs.MustCan.{Table, MustCan, Bag, Index, Executed, Possible, must_can, gives, sequence, chosen, one_of}
 use Rattle.hh_term.specs.Step.{Stepped, step, mark_map, then_start, wrap, wrapped}
 use Rattle.hh_term.specs.Touches.{marks_numbered}
-use Rattle.sync_step.specs.Rests.{RestsIn}
+use Rattle.hh_term.specs.Marks.{IsMarkOf}
 use Rattle.sync_step.specs.Walk.{Walked, ends, rests, emits, part, followed, walk}
 
 -- emissions of pure signals
@@ -41,7 +41,7 @@ pub record Decides (signals : List SignalDecl) (given : ℕ → Bool) (E : Env) 
 
 abbrev pub IsTaskOf : Statement → Task → Type 0
 IsTaskOf p Start = Unit {0}
-IsTaskOf p (Resume m) = RestsIn p m
+IsTaskOf p (Resume m) = IsMarkOf p m
 
 -- code 0 ends
 abbrev pub at_end : ℕ → Bool
