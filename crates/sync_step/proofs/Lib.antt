@@ -1,3 +1,5 @@
 pub mod WalkLaws
 pub mod WalkEnds
 pub mod Bags
+pub mod Interface
+pub mod Reacts

@@ -1,0 +1,218 @@
+-- The reaction of a program of the first language completes, with what the walk of its statement gives.
+use Rattle.std.proofs.Common.{◌≡◌, ◌≢◌, refl, sym, ap, ◌∙◌, subst, ℕ, zero, suc, ◌+◌, ◌<◌, ◌≤◌, Bool, true, false, cond, ◌==◌, ◌&&◌, Option, Some, None, List, [], ◌∷◌, ◌++◌, map, ◌⊎◌, inl, inr, length, fold, append-nil, append_assoc, arith}
+use Rattle.std.specs.Prelude.{slice_get}
+use Rattle.std.specs.List.{AllByRecursion}
+use Rattle.std.proofs.lemmas.Option.{slice_get_within, slice_get_past}
+use Rattle.hh_base.specs.declared.value.Pos.{Pos}
+use Rattle.hh_base.specs.declared.value.FaultKind.{FaultKind}
+use Rattle.hh_base.specs.declared.value.Value.{Value}
+use Rattle.hh_base.specs.declared.value.Value.TheVariants as value
+use Rattle.hh_base.specs.declared.value.Kind.{Kind}
+use Rattle.hh_base.specs.declared.value.Kind.TheVariants as kind
+use Rattle.hh_base.specs.declared.value.CombineWord.{CombineWord}
+use Rattle.host_expr.specs.declared.cell.Cell.{Cell}
+use Rattle.host_expr.specs.declared.cell.Cell.TheVariants as cell
+use Rattle.host_expr.specs.declared.cell.SigCell.{SigCell}
+use Rattle.host_expr.specs.Environment.{Env, is_known, is_decided, is_present, blank}
+use Rattle.host_expr.specs.Combination.{is_several, is_overflowed}
+use Rattle.hh_term.specs.declared.program.Dir.{Dir}
+use Rattle.hh_term.specs.declared.program.Dir.TheVariants as dir
+use Rattle.hh_term.specs.declared.program.SignalDecl.{SignalDecl}
+use Rattle.hh_term.specs.FirstLanguage.{HasDirection, IsFirstSignal, IsFirstLanguage, IsOneWay, IsFirstStatement}
+use Rattle.hh_term.specs.Kernel.{Kernel, kind_at, word_at}
+use Rattle.hh_term.specs.Statement.{Statement}
+use Rattle.hh_term.specs.Selection.{Selection, Control, Fresh, At, Ended, Start, Resume}
+use Rattle.hh_term.specs.Marks.{IsMarkOf, IsControlOf}
+use Rattle.hh_term.specs.MustCan.{Table, table_of, MustCan, Bag, Executed, must_can, cells_of, status_by}
+use Rattle.hh_term.specs.Step.{Stepped, leave, overflow_by, doubled_by, values_of}
+use Rattle.hh_term.specs.Touches.{marks_numbered}
+use Rattle.hh_term.specs.Reaction.{Last, Outer, Now, Ran, Completed, Completes, Outcome, Doubled, Faulted, first_declared, earlier, idle, given_bag, program_must_can, program_step, solved, undecided, leave_all, now_of, control_after, completed, judged, concluded, react, given_to, outers_from, reaction}
+use Rattle.sync_step.specs.Walk.{Walked, walk, Reacted, reacted, control_at, program_walk}
+use Rattle.sync_step.specs.Walking.{is_among, passing_below}
+use Rattle.sync_step.specs.Steps.{pure_inputs, is_output, is_output_at, present_outputs, Answers, IsStepOf}
+use Rattle.sync_step.proofs.WalkLaws.{bag_of, status_of, Decides, Does, IsTaskOf, walk_does, stepped_of, walk_steps}
+use Rattle.sync_step.proofs.WalkEnds.{AreOutputs, NextIn, Keeps, walk_keeps, numbered_same}
+use Rattle.sync_step.proofs.Bags.{same_or_not, not_same, Has, no_input, one_direction, EmitsOutputs, emits_outputs}
+use Rattle.sync_step.proofs.Interface.{value_given, given_cells, SolvedBy, all_cells, solved_by}
+
+-- pure signals without a combine word
+abbrev IsPureTable : Table → Type 0
+IsPureTable T = (s : ℕ) → (T.kind s ≡ kind.Pure) × (T.word s ≡ None)
+
+no_several : (k : Kind) (w : Option CombineWord) (vs : List Value) → k ≡ kind.Pure → w ≡ None → is_several k w vs ≡ false
+no_several k w [] h g = rw (h, g) refl
+no_several k w (v ∷ []) h g = rw (h, g) refl
+no_several k w (v ∷ u ∷ vs) h g = rw (h, g) refl
+
+no_overflow : (w : Option CombineWord) (vs : List Value) → w ≡ None → is_overflowed w vs ≡ false
+no_overflow w vs g = rw g refl
+
+-- leaving the scopes of pure signals reports nothing
+pub record Clear (a b : Stepped) : Type 0 where
+  pub faults : a.faults ≡ b.faults
+  pub doubled : a.doubled ≡ b.doubled
+
+leave_clear : (T : Table) (s : ℕ) (a : Stepped) → IsPureTable T → Clear (leave T s a) a
+leave_clear T s a h = record {
+    faults = rw (no_overflow (T.word s) (values_of T s a.bag) (h s).1) refl;
+    doubled = rw (no_several (T.kind s) (T.word s) (values_of T s a.bag) (h s).0 (h s).1) refl;
+  }
+
+leave_all_clear : (T : Table) (os : List Outer) (a : Stepped) → IsPureTable T → Clear (leave_all T os a) a
+leave_all_clear T [] a h = record { faults = refl; doubled = refl }
+leave_all_clear T (o ∷ os) a h =
+    let b = leave_all T os a in
+    let x = leave_clear T o.signal (record b { bag = given_bag o ++ b.bag }) h in
+    let y = leave_all_clear T os a h in
+    record { faults = x.faults ∙ y.faults; doubled = x.doubled ∙ y.doubled }
+
+judged_clear : (T : Table) (os : List Outer) (c : Control) (last : ℕ) (E : Env) (r : Ran) → IsPureTable T → r.stepped.faults ≡ [] → r.stepped.doubled ≡ [] → judged T os c last E r ≡ Completes (completed T os c last E r)
+judged_clear T os c last E r h f d =
+    let x = leave_all_clear T os r.stepped h in
+    let left = leave_all T os r.stepped in
+    let P : List ℕ → List (Pos × FaultKind) → Outcome = λ ds gs. (elim ds [
+      | s ∷ ss ↦ Doubled (fold (first_declared T) s ss)
+      | [] ↦ (elim gs [ g ∷ gs' ↦ Faulted (fold earlier g gs').0 (fold earlier g gs').1 | [] ↦ Completes (completed T os c last E r) ])
+    ]) in
+    ap (λ ds. P ds left.faults) (x.doubled ∙ d) ∙ ap (P []) (x.faults ∙ f)
+
+and_true : (a b : Bool) → a ≡ true → b ≡ true → (a && b) ≡ true
+and_true a b h g = rw (h, g) refl
+
+and_false : (a : Bool) → (a && false) ≡ false
+and_false true = refl
+and_false false = refl
+
+decided_by : (cs : List Cell) (x : SigCell) → SolvedBy cs x → is_decided x.status ≡ true
+decided_by [] x h = rw h.status refl
+decided_by (c ∷ cs) x h = rw h.status refl
+
+undecided_none : (is : List (ℕ × Value)) (ls : List Last) (k : ℕ) (E : Env) → ((s : ℕ) → k ≤ s → s < k + length ls → (is_decided (E s).status && is_known (E s).value) ≡ true) → undecided E (outers_from k is ls) ≡ []
+undecided_none is [] k E h = refl
+undecided_none is (l ∷ ls) k E h = rw (h k (omega arith) (omega arith)) (undecided_none is ls (suc k) E (λ s a b. h s (omega arith) (omega arith)))
+
+-- what is present among the interface signals from k on
+present_from : (signals : List SignalDecl) (f : ℕ → Bool) (is : List (ℕ × Value)) (bag : Bag) (E : Env) (ls : List Last) (k : ℕ)
+  → ((s : ℕ) → k ≤ s → s < k + length ls → (is_present (E s).status && is_output_at signals s) ≡ f s)
+  → passing_below f k ++ present_outputs signals (map (now_of E bag) (outers_from k is ls)) ≡ passing_below f (k + length ls)
+present_from signals f is bag E [] k h = let e : k ≡ k + length {A = Last} [] = omega arith in append-nil (passing_below f k) ∙ ap (passing_below f) e
+present_from signals f is bag E (l ∷ ls) k h =
+    let e : suc k + length ls ≡ k + length (l ∷ ls) = omega arith in
+    rw (h k (omega arith) (omega arith)) (at_flag (f k) ∙ present_from signals f is bag E ls (suc k) (λ s a b. h s (omega arith) (omega arith)) ∙ ap (passing_below f) e)
+  where
+    at_flag : (v : Bool) → passing_below f k ++ cond v (k ∷ present_outputs signals (map (now_of E bag) (outers_from (suc k) is ls))) (present_outputs signals (map (now_of E bag) (outers_from (suc k) is ls))) ≡ (passing_below f k ++ cond v (k ∷ []) []) ++ present_outputs signals (map (now_of E bag) (outers_from (suc k) is ls))
+    at_flag true = sym (append_assoc (passing_below f k) (k ∷ []) (present_outputs signals (map (now_of E bag) (outers_from (suc k) is ls))))
+    at_flag false = sym (append_assoc (passing_below f k) [] (present_outputs signals (map (now_of E bag) (outers_from (suc k) is ls))))
+
+-- a signal is present where it is emitted
+emitted_present : (s : ℕ) (ss : List ℕ) → is_present (status_by (cells_of s (bag_of ss)) (cells_of s (bag_of ss))) ≡ is_among ss s
+emitted_present s [] = refl
+emitted_present s (r ∷ ss) = at_test (r == s) (emitted_present s ss)
+  where
+    at_test : (v : Bool) → is_present (status_by (cells_of s (bag_of ss)) (cells_of s (bag_of ss))) ≡ is_among ss s
+      → is_present (status_by (cond v (cell.Known value.Unit ∷ cells_of s (bag_of ss)) (cells_of s (bag_of ss))) (cond v (cell.Known value.Unit ∷ cells_of s (bag_of ss)) (cells_of s (bag_of ss)))) ≡ cond v true (is_among ss s)
+    at_test true h = refl
+    at_test false h = h
+
+among_outputs : (signals : List SignalDecl) (ss : List ℕ) (s : ℕ) → AreOutputs signals ss → HasDirection signals s dir.Input → is_among ss s ≡ false
+among_outputs signals [] s h i = refl
+among_outputs signals (r ∷ ss) s h i =
+    let n : (r == s) ≡ false = not_same r s (λ e. one_direction signals s i (subst (λ x. HasDirection signals x dir.Output) e h.0)) in
+    rw n (among_outputs signals ss s h.1 i)
+
+among_inputs : (signals : List SignalDecl) (inputs : List ℕ) (s : ℕ) → AllByRecursion (λ r. HasDirection signals r dir.Input) inputs → HasDirection signals s dir.Output → is_among inputs s ≡ false
+among_inputs signals [] s h o = refl
+among_inputs signals (r ∷ inputs) s h o =
+    let n : (r == s) ≡ false = not_same r s (λ e. one_direction signals s (subst (λ x. HasDirection signals x dir.Input) e h.0) o) in
+    rw n (among_inputs signals inputs s h.1 o)
+
+given_pure : (inputs : List ℕ) (s : ℕ) → given_to (pure_inputs inputs) s ≡ value_given (is_among inputs s)
+given_pure [] s = refl
+given_pure (r ∷ inputs) s = at_test (r == s) (given_pure inputs s)
+  where
+    at_test : (v : Bool) → given_to (pure_inputs inputs) s ≡ value_given (is_among inputs s) → cond v (Some value.Unit) (given_to (pure_inputs inputs) s) ≡ value_given (cond v true (is_among inputs s))
+    at_test true h = refl
+    at_test false h = h
+
+-- each signal of the first language has one direction
+directed_by : (d : SignalDecl) → IsOneWay d.dir → (d.dir ≡ dir.Input) ⊎ (d.dir ≡ dir.Output)
+directed_by d h = at_direction d.dir h
+  where
+    at_direction : (x : Dir) → IsOneWay x → (x ≡ dir.Input) ⊎ (x ≡ dir.Output)
+    at_direction dir.Input h = inl refl
+    at_direction dir.Output h = inr refl
+    at_direction _ h = absurd h
+
+first_at_place : (signals : List SignalDecl) (s : ℕ) → AllByRecursion IsFirstSignal signals → s < length signals → (d : SignalDecl) × (slice_get signals s ≡ Some d) × IsFirstSignal d
+first_at_place [] s h b = absurd (omega arith)
+first_at_place (d ∷ signals) zero h b = (d, refl, h.0)
+first_at_place (d ∷ signals) (suc s) h b = let x = first_at_place signals s h.1 (omega arith) in (x.0, x.1, x.2)
+
+direction_at : (signals : List SignalDecl) (s : ℕ) → AllByRecursion IsFirstSignal signals → s < length signals → HasDirection signals s dir.Input ⊎ HasDirection signals s dir.Output
+direction_at signals s h b =
+    let x = first_at_place signals s h b in
+    (elim (directed_by x.0 x.2.one_way) [ inl e ↦ inl (x.0, x.1, e) | inr e ↦ inr (x.0, x.1, e) ])
+
+-- a program of the first language has pure signals
+pure_at : (K : Kernel) → AllByRecursion IsFirstSignal K.signals → IsPureTable (table_of K)
+pure_at K h s = at_place K.signals s h
+  where
+    at_place : (signals : List SignalDecl) (s : ℕ) → AllByRecursion IsFirstSignal signals
+      → ((elim (slice_get signals s) [ Some d ↦ d.kind | None ↦ kind.Pure ]) ≡ kind.Pure) × ((elim (slice_get signals s) [ Some d ↦ d.combine | None ↦ None ]) ≡ None)
+    at_place [] s h = (refl, refl)
+    at_place (d ∷ signals) zero h = (h.0.pure, h.0.combine)
+    at_place (d ∷ signals) (suc s) h = at_place signals s h.1
+
+-- what the program does, from its walk
+abbrev run_of : (ℕ → Bool) → Statement → Control → Ran
+run_of given p Fresh = record { stepped = stepped_of (walk given p Start); code = Some (walk given p Start).code }
+run_of given p (At m) = record { stepped = stepped_of (walk given p (Resume m)); code = Some (walk given p (Resume m)).code }
+run_of given p Ended = record { stepped = idle; code = None }
+
+pub record RunIs (signals : List SignalDecl) (p : Statement) (last : ℕ) (c : Control) (r : Ran) (w : Reacted) : Type 0 where
+  pub bag : r.stepped.bag ≡ bag_of w.emitted
+  pub faults : r.stepped.faults ≡ []
+  pub doubled : r.stepped.doubled ≡ []
+  pub code : r.code ≡ w.code
+  pub next : control_after last c r ≡ w.next
+  pub outputs : AreOutputs signals w.emitted
+  pub rests : IsControlOf p w.next
+
+next_is : (signals : List SignalDecl) (p : Statement) (last : ℕ) (n : Option Selection) → IsFirstStatement signals p → NextIn p n → (elim n [ Some m ↦ At (marks_numbered last m).0 | None ↦ Ended ]) ≡ control_at n
+next_is signals p last None h k = refl
+next_is signals p last (Some m) h k = ap At (numbered_same signals last p m h k)
+
+next_rests : (p : Statement) (n : Option Selection) → NextIn p n → IsControlOf p (control_at n)
+next_rests p None k = tt
+next_rests p (Some m) k = k
+
+walk_runs : (signals : List SignalDecl) (p : Statement) (last : ℕ) (c : Control) (w : Walked) → IsFirstStatement signals p → Keeps signals p w → RunIs signals p last c (record { stepped = stepped_of w; code = Some w.code }) (reacted w)
+walk_runs signals p last c w h k = record { bag = refl; faults = refl; doubled = refl; code = refl; next = next_is signals p last w.next h k.next; outputs = k.outputs; rests = next_rests p w.next k.next }
+
+run_is : (signals : List SignalDecl) (given : ℕ → Bool) (p : Statement) (last : ℕ) (c : Control) → IsFirstStatement signals p → IsControlOf p c → RunIs signals p last c (run_of given p c) (program_walk given p c)
+run_is signals given p last Fresh h k = walk_runs signals p last Fresh (walk given p Start) h (walk_keeps signals given p Start h tt)
+run_is signals given p last (At m) h k = walk_runs signals p last (At m) (walk given p (Resume m)) h (walk_keeps signals given p (Resume m) h k)
+run_is signals given p last Ended h k = record { bag = refl; faults = refl; doubled = refl; code = refl; next = refl; outputs = tt; rests = tt }
+
+program_runs : (signals : List SignalDecl) (T : Table) (given : ℕ → Bool) (p : Statement) (c : Control) → IsFirstStatement signals p → IsControlOf p c → (E : Env) → Decides signals given E → program_step T p c E ≡ Some (run_of given p c)
+program_runs signals T given p Fresh h k E d = rw (walk_steps signals T given E d p Start h tt) refl
+program_runs signals T given p (At m) h k E d = rw (walk_steps signals T given E d p (Resume m) h k) refl
+program_runs signals T given p Ended h k E d = refl
+
+-- the cells of inputs, and of all signals where the inputs are decided
+program_free : (signals : List SignalDecl) (T : Table) (p : Statement) (c : Control) → IsFirstStatement signals p → IsControlOf p c → (E : Env) (s : ℕ) → HasDirection signals s dir.Input → Has s (program_must_can T p c E) []
+program_free signals T p Fresh h k E s i =
+    let e = emits_outputs signals T p Start h tt Executed E in
+    record { must = no_input signals s (must_can T p Start Executed E).must i e.must; can = no_input signals s (must_can T p Start Executed E).can i e.can }
+program_free signals T p (At m) h k E s i =
+    let e = emits_outputs signals T p (Resume m) h k Executed E in
+    record { must = no_input signals s (must_can T p (Resume m) Executed E).must i e.must; can = no_input signals s (must_can T p (Resume m) Executed E).can i e.can }
+program_free signals T p Ended h k E s i = record { must = refl; can = refl }
+
+has_walk : (s : ℕ) (a : MustCan) (w : Walked) → Does a w → Has s a (cells_of s (bag_of w.emitted))
+has_walk s a w h = record { must = ap (cells_of s) h.must; can = ap (cells_of s) h.can }
+
+program_does : (signals : List SignalDecl) (T : Table) (given : ℕ → Bool) (p : Statement) (c : Control) → IsFirstStatement signals p → IsControlOf p c → (E : Env) → Decides signals given E → (s : ℕ) → Has s (program_must_can T p c E) (cells_of s (bag_of (program_walk given p c).emitted))
+program_does signals T given p Fresh h k E d s = has_walk s (must_can T p Start Executed E) (walk given p Start) (walk_does signals T given E d p Start h tt)
+program_does signals T given p (At m) h k E d s = has_walk s (must_can T p (Resume m) Executed E) (walk given p (Resume m)) (walk_does signals T given E d p (Resume m) h k)
+program_does signals T given p Ended h k E d s = record { must = refl; can = refl }
