@@ -54,7 +54,7 @@ bag_known s (r ∷ ss) = at_test (r == s) (bag_known s ss)
     at_test true h = h
     at_test false h = h
 
-bag_outputs : (signals : List SignalDecl) (ss : List ℕ) → AreOutputs signals ss → OnlyOutputs signals (bag_of ss)
+pub bag_outputs : (signals : List SignalDecl) (ss : List ℕ) → AreOutputs signals ss → OnlyOutputs signals (bag_of ss)
 bag_outputs signals [] h = tt
 bag_outputs signals (s ∷ ss) h = (h.0, bag_outputs signals ss h.1)
 
@@ -76,7 +76,7 @@ all_cells_known : (b : Bool) (cs : List Cell) → all_known cs ≡ true → all_
 all_cells_known true cs h = h
 all_cells_known false cs h = h
 
-status_given : (b : Bool) (cs : List Cell) → cs ≡ [] → status_by (given_cells b ++ cs) (given_cells b ++ cs) ≡ status_of b
+pub status_given : (b : Bool) (cs : List Cell) → cs ≡ [] → status_by (given_cells b ++ cs) (given_cells b ++ cs) ≡ status_of b
 status_given true cs h = refl
 status_given false cs h = rw h refl
 

@@ -26,14 +26,14 @@ use Rattle.hh_term.specs.Marks.{IsMarkOf, IsControlOf}
 use Rattle.hh_term.specs.MustCan.{Table, table_of, MustCan, Bag, Executed, must_can, cells_of, status_by}
 use Rattle.hh_term.specs.Step.{Stepped, leave, overflow_by, doubled_by, values_of}
 use Rattle.hh_term.specs.Touches.{marks_numbered}
-use Rattle.hh_term.specs.Reaction.{Last, Outer, Now, Ran, Completed, Completes, Outcome, Doubled, Faulted, first_declared, earlier, idle, given_bag, program_must_can, program_step, solved, undecided, leave_all, now_of, control_after, completed, judged, concluded, react, given_to, outers_from, reaction}
+use Rattle.hh_term.specs.Reaction.{Last, Outer, Now, Ran, Completed, Completes, Outcome, Undecided, Doubled, Faulted, first_declared, earlier, idle, given_bag, program_must_can, program_step, solved, undecided, leave_all, now_of, control_after, completed, judged, concluded, react, given_to, outers_from, reaction}
 use Rattle.sync_step.specs.Walk.{Walked, walk, Reacted, reacted, control_at, program_walk}
 use Rattle.sync_step.specs.Walking.{is_among, passing_below}
 use Rattle.sync_step.specs.Steps.{pure_inputs, is_output, is_output_at, present_outputs, Answers, IsStepOf}
 use Rattle.sync_step.proofs.WalkLaws.{bag_of, status_of, Decides, Does, IsTaskOf, walk_does, stepped_of, walk_steps}
 use Rattle.sync_step.proofs.WalkEnds.{AreOutputs, NextIn, Keeps, walk_keeps, numbered_same}
 use Rattle.sync_step.proofs.Bags.{same_or_not, not_same, Has, no_input, one_direction, EmitsOutputs, emits_outputs}
-use Rattle.sync_step.proofs.Interface.{value_given, given_cells, SolvedBy, all_cells, solved_by}
+use Rattle.sync_step.proofs.Interface.{value_given, given_cells, SolvedBy, all_cells, solved_by, status_given, bag_outputs}
 
 -- pure signals without a combine word
 abbrev IsPureTable : Table → Type 0
@@ -158,7 +158,7 @@ pure_at : (K : Kernel) → AllByRecursion IsFirstSignal K.signals → IsPureTabl
 pure_at K h s = at_place K.signals s h
   where
     at_place : (signals : List SignalDecl) (s : ℕ) → AllByRecursion IsFirstSignal signals
-      → ((elim (slice_get signals s) [ Some d ↦ d.kind | None ↦ kind.Pure ]) ≡ kind.Pure) × ((elim (slice_get signals s) [ Some d ↦ d.combine | None ↦ None ]) ≡ None)
+      → ((elim (slice_get signals s) [ Some d ↦ d.kind | None ↦ kind.Pure ]) ≡ kind.Pure) × (◌≡◌ {A = Option CombineWord} (elim (slice_get signals s) [ Some d ↦ d.combine | None ↦ None ]) None)
     at_place [] s h = (refl, refl)
     at_place (d ∷ signals) zero h = (h.0.pure, h.0.combine)
     at_place (d ∷ signals) (suc s) h = at_place signals s h.1
@@ -216,3 +216,98 @@ program_does : (signals : List SignalDecl) (T : Table) (given : ℕ → Bool) (p
 program_does signals T given p Fresh h k E d s = has_walk s (must_can T p Start Executed E) (walk given p Start) (walk_does signals T given E d p Start h tt)
 program_does signals T given p (At m) h k E d s = has_walk s (must_can T p (Resume m) Executed E) (walk given p (Resume m)) (walk_does signals T given E d p (Resume m) h k)
 program_does signals T given p Ended h k E d s = record { must = refl; can = refl }
+
+output_at : (signals : List SignalDecl) (s : ℕ) → HasDirection signals s dir.Output → is_output_at signals s ≡ true
+output_at signals s h = rw (h.1, h.2) refl
+
+input_at : (signals : List SignalDecl) (s : ℕ) → HasDirection signals s dir.Input → is_output_at signals s ≡ false
+input_at signals s h = rw (h.1, h.2) refl
+
+length_outers : (is : List (ℕ × Value)) (ls : List Last) (k : ℕ) → length (outers_from k is ls) ≡ length ls
+length_outers is [] k = refl
+length_outers is (l ∷ ls) k = ap suc (length_outers is ls (suc k))
+
+length_nows : (E : Env) (bag : Bag) (os : List Outer) → length (map (now_of E bag) os) ≡ length os
+length_nows E bag [] = refl
+length_nows E bag (o ∷ os) = ap suc (length_nows E bag os)
+
+-- an output is present where it is emitted, and an input is no output
+present_is : (signals : List SignalDecl) (given : ℕ → Bool) (ss : List ℕ) (s : ℕ) (x : SigCell) → AreOutputs signals ss → HasDirection signals s dir.Input ⊎ HasDirection signals s dir.Output → (HasDirection signals s dir.Output → given s ≡ false) → SolvedBy (all_cells given ss s) x → (is_present x.status && is_output_at signals s) ≡ is_among ss s
+present_is signals given ss s x h (inl i) g y = ap (λ v. is_present x.status && v) (input_at signals s i) ∙ and_false (is_present x.status) ∙ sym (among_outputs signals ss s h i)
+present_is signals given ss s x h (inr o) g y =
+    ap (λ v. is_present x.status && v) (output_at signals s o)
+    ∙ and_true_right (is_present x.status)
+    ∙ ap is_present y.status
+    ∙ ap (λ b. is_present (status_by (given_cells b ++ cells_of s (bag_of ss)) (given_cells b ++ cells_of s (bag_of ss)))) (g o)
+    ∙ emitted_present s ss
+  where
+    and_true_right : (a : Bool) → (a && true) ≡ a
+    and_true_right true = refl
+    and_true_right false = refl
+
+-- the inputs are decided as they are given
+decides_all : (signals : List SignalDecl) (given : ℕ → Bool) (ss : List ℕ) (E : Env) → AreOutputs signals ss → ((s : ℕ) → s < length signals → SolvedBy (all_cells given ss s) (E s)) → Decides signals given E
+decides_all signals given ss E h y = record { at = λ s i. (y s (slice_get_within signals s i.0 i.1)).status ∙ status_given (given s) (cells_of s (bag_of ss)) (no_input signals s (bag_of ss) i (bag_outputs signals ss h)) }
+
+module _
+    (K : Kernel) (L : IsFirstLanguage K) (c : Control) (rests : IsControlOf K.statement c)
+    (inputs : List ℕ) (are : AllByRecursion (λ s. HasDirection K.signals s dir.Input) inputs)
+    (given : ℕ → Bool) (as_inputs : (s : ℕ) → s < length K.signals → given s ≡ is_among inputs s)
+    where
+
+  directed : (s : ℕ) → s < length K.signals → HasDirection K.signals s dir.Input ⊎ HasDirection K.signals s dir.Output
+  directed s b = direction_at K.signals s L.signals b
+
+  not_given : (s : ℕ) → HasDirection K.signals s dir.Output → given s ≡ false
+  not_given s o = as_inputs s (slice_get_within K.signals s o.0 o.1) ∙ among_inputs K.signals inputs s are o
+
+  as_given : (s : ℕ) → s < length K.signals → given_to (pure_inputs inputs) s ≡ value_given (given s)
+  as_given s b = given_pure inputs s ∙ ap value_given (sym (as_inputs s b))
+
+  abbrev environment : List Last → Env
+  environment before = solved (table_of K) (outers_from 0 (pure_inputs inputs) before) (program_must_can (table_of K) K.statement c) blank
+
+  abbrev emissions : List ℕ
+  emissions = (program_walk given K.statement c).emitted
+
+  all_solved : (before : List Last) → length before ≡ length K.signals → AreOutputs K.signals emissions → (s : ℕ) → s < length K.signals → SolvedBy (all_cells given emissions s) (environment before s)
+  all_solved before e h s b =
+      solved_by K.signals (table_of K) given (pure_inputs inputs) (program_must_can (table_of K) K.statement c) emissions directed as_given h
+      (program_free K.signals (table_of K) K.statement c L.statement rests)
+      (program_does K.signals (table_of K) given K.statement c L.statement rests)
+      before 0 blank (omega arith) (λ r lt i. absurd (omega arith)) s (omega arith) b
+
+  none_left : (before : List Last) → length before ≡ length K.signals → AreOutputs K.signals emissions → undecided (environment before) (outers_from 0 (pure_inputs inputs) before) ≡ []
+  none_left before e h = undecided_none (pure_inputs inputs) before 0 (environment before) (λ s a b.
+      let y = all_solved before e h s (omega arith) in
+      and_true (is_decided (environment before s).status) (is_known (environment before s).value) (decided_by (all_cells given emissions s) (environment before s) y) y.known)
+
+  -- the reaction completes, and this is its answer
+  pub answers : (f : ℕ → Bool) → ((s : ℕ) → s < length K.signals → f s ≡ is_among emissions s)
+    → IsStepOf K c inputs (passing_below f (length K.signals)) (program_walk given K.statement c).code (program_walk given K.statement c).next
+  answers f as_emitted before same last =
+      let T = table_of K in
+      let os = outers_from 0 (pure_inputs inputs) before in
+      let E = environment before in
+      let r = run_of given K.statement c in
+      let run = run_is K.signals given K.statement last c L.statement rests in
+      let e : length before ≡ length K.signals = same ∙ L.interface in
+      let y = all_solved before e run.outputs in
+      let d = decides_all K.signals given emissions E run.outputs y in
+      let here : (s : ℕ) → 0 ≤ s → s < 0 + length before → (is_present (E s).status && is_output_at K.signals s) ≡ f s =
+        λ s a b. present_is K.signals given emissions s (E s) run.outputs (directed s (omega arith)) (not_given s) (y s (omega arith)) ∙ sym (as_emitted s (omega arith)) in
+      let count : 0 + length before ≡ length K.signals = omega arith in
+      record {
+        completed = completed T os c last E r;
+        completes =
+          ap (λ v. elim v [ [] ↦ concluded T os c last E (program_step T K.statement c E) | s ∷ ss ↦ Undecided (s ∷ ss) ]) (none_left before e run.outputs)
+          ∙ ap (concluded T os c last E) (program_runs K.signals T given K.statement c L.statement rests E d)
+          ∙ judged_clear T os c last E r (pure_at K L.signals) run.faults run.doubled;
+        interface = length_nows E r.stepped.bag os ∙ length_outers (pure_inputs inputs) before 0 ∙ same;
+        signals = ap (passing_below f) (sym count) ∙ sym (present_from K.signals f (pure_inputs inputs) r.stepped.bag E before 0 here);
+        code = sym run.code;
+        next = sym run.next;
+      }
+
+  pub next_rests_in : IsControlOf K.statement (program_walk given K.statement c).next
+  next_rests_in = (run_is K.signals given K.statement 0 c L.statement rests).rests
