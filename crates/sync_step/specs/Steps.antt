@@ -18,8 +18,12 @@ abbrev pub is_output : Dir → Bool
 is_output dir.Output = true
 is_output _ = false
 
+abbrev pub declares_output : Option SignalDecl → Bool
+declares_output (Some d) = is_output d.dir
+declares_output None = false
+
 abbrev pub is_output_at : List SignalDecl → ℕ → Bool
-is_output_at signals s = (elim (slice_get signals s) [ Some d ↦ is_output d.dir | None ↦ false ])
+is_output_at signals s = declares_output (slice_get signals s)
 
 -- the output signals that are present, in the order of the interface
 abbrev pub present_outputs : List SignalDecl → List Now → List ℕ
