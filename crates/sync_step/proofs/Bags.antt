@@ -61,9 +61,9 @@ given_other s o h = at_given o.given
 -- a scope changes no other signal's cells
 pub has_outside : (s : ℕ) (o : Outer) (a : MustCan) (cs : List Cell) → s ≢ o.signal → Has s a cs → Has s (hide o.signal (with_given o a)) cs
 has_outside s o a cs h k = record {
-    must = cells-without s o.signal (given_bag o ++ a.must) h ∙ cells-append s (given_bag o) a.must ∙ ap (λ c. c ++ cells_of s a.must) (given_other s o h) ∙ k.must;
-    can = cells-without s o.signal (given_bag o ++ a.can) h ∙ cells-append s (given_bag o) a.can ∙ ap (λ c. c ++ cells_of s a.can) (given_other s o h) ∙ k.can;
-  }
+  must = cells-without s o.signal (given_bag o ++ a.must) h ∙ cells-append s (given_bag o) a.must ∙ ap (λ c. c ++ cells_of s a.must) (given_other s o h) ∙ k.must;
+  can = cells-without s o.signal (given_bag o ++ a.can) h ∙ cells-append s (given_bag o) a.can ∙ ap (λ c. c ++ cells_of s a.can) (given_other s o h) ∙ k.can;
+}
 
 -- the bag emits outputs alone
 abbrev pub OnlyOutputs : List SignalDecl → Bag → Type 0

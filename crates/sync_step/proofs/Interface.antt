@@ -42,9 +42,9 @@ value_known k w v (c ∷ cs) h = rw (same_length (length (c ∷ cs)), h) refl
 
 raised_by : (T : Table) (s : ℕ) (c : SigCell) (a : MustCan) (cs : List Cell) → all_known cs ≡ true → Has s a cs → SolvedBy cs (raised T s c a)
 raised_by T s c a cs h k = record {
-    status = rw (k.must, k.can) refl;
-    known = rw (k.must, k.can) (value_known (T.kind s) (T.word s) c.preval cs h);
-  }
+  status = rw (k.must, k.can) refl;
+  known = rw (k.must, k.can) (value_known (T.kind s) (T.word s) c.preval cs h);
+}
 
 pub bag_known : (s : ℕ) (ss : List ℕ) → all_known (cells_of s (bag_of ss)) ≡ true
 bag_known s [] = refl
@@ -87,88 +87,87 @@ module _
     (outputs : AreOutputs signals ss)
     (free : (E : Env) (s : ℕ) → HasDirection signals s dir.Input → Has s (p E) [])
     (does : (E : Env) → Decides signals given E → (s : ℕ) → Has s (p E) (cells_of s (bag_of ss)))
-    where
+  where
+    -- the inputs below k are decided as they are given
+    abbrev DecidesBelow : ℕ → Env → Type 0
+    DecidesBelow k E = (s : ℕ) → s < k → HasDirection signals s dir.Input → (E s).status ≡ status_of (given s)
 
-  -- the inputs below k are decided as they are given
-  abbrev DecidesBelow : ℕ → Env → Type 0
-  DecidesBelow k E = (s : ℕ) → s < k → HasDirection signals s dir.Input → (E s).status ≡ status_of (given s)
+    no_emission : (s : ℕ) → HasDirection signals s dir.Input → cells_of s (bag_of ss) ≡ []
+    no_emission s h = no_input signals s (bag_of ss) h (bag_outputs signals ss outputs)
 
-  no_emission : (s : ℕ) → HasDirection signals s dir.Input → cells_of s (bag_of ss) ≡ []
-  no_emission s h = no_input signals s (bag_of ss) h (bag_outputs signals ss outputs)
+    nest_input : (ls : List Last) (k : ℕ) (E : Env) (s : ℕ) → s < k → HasDirection signals s dir.Input → Has s (nest T (outers_from k is ls) p E) []
+    nest_input [] k E s b h = free E s h
+    nest_input (l ∷ ls) k E s b h =
+        let o : Outer = record { signal = k; last = l; given = given_to is k } in
+        let F = put E k (solved_cell T o (nest T (outers_from (suc k) is ls) p) E) in
+        let n : s ≢ k = omega arith in
+        has_outside s o (nest T (outers_from (suc k) is ls) p F) [] n (nest_input ls (suc k) F s (omega arith) h)
 
-  nest_input : (ls : List Last) (k : ℕ) (E : Env) (s : ℕ) → s < k → HasDirection signals s dir.Input → Has s (nest T (outers_from k is ls) p E) []
-  nest_input [] k E s b h = free E s h
-  nest_input (l ∷ ls) k E s b h =
-      let o : Outer = record { signal = k; last = l; given = given_to is k } in
-      let F = put E k (solved_cell T o (nest T (outers_from (suc k) is ls) p) E) in
-      let n : s ≢ k = omega arith in
-      has_outside s o (nest T (outers_from (suc k) is ls) p F) [] n (nest_input ls (suc k) F s (omega arith) h)
+    with_given_has : (k : ℕ) (l : Last) (a : MustCan) → k < length signals → Has k a (cells_of k (bag_of ss)) → Has k (with_given (record { signal = k; last = l; given = given_to is k }) a) (all_cells given ss k)
+    with_given_has k l a b h =
+        let o : Outer = record { signal = k; last = l; given = given_to is k } in
+        let g = given_here k l (given k) (given_to is k) (as_given k b) in
+        record {
+          must = cells-append k (given_bag o) a.must ∙ ap (λ c. c ++ cells_of k a.must) g ∙ ap (λ c. given_cells (given k) ++ c) h.must;
+          can = cells-append k (given_bag o) a.can ∙ ap (λ c. c ++ cells_of k a.can) g ∙ ap (λ c. given_cells (given k) ++ c) h.can;
+        }
 
-  with_given_has : (k : ℕ) (l : Last) (a : MustCan) → k < length signals → Has k a (cells_of k (bag_of ss)) → Has k (with_given (record { signal = k; last = l; given = given_to is k }) a) (all_cells given ss k)
-  with_given_has k l a b h =
-      let o : Outer = record { signal = k; last = l; given = given_to is k } in
-      let g = given_here k l (given k) (given_to is k) (as_given k b) in
-      record {
-        must = cells-append k (given_bag o) a.must ∙ ap (λ c. c ++ cells_of k a.must) g ∙ ap (λ c. given_cells (given k) ++ c) h.must;
-        can = cells-append k (given_bag o) a.can ∙ ap (λ c. c ++ cells_of k a.can) g ∙ ap (λ c. given_cells (given k) ++ c) h.can;
-      }
+    -- what is nested inside has the emissions of the next signal, whatever is put for it
+    body_has : (ls : List Last) (k : ℕ) (E : Env) → k < length signals → DecidesBelow k E
+        → ((F : Env) → DecidesBelow (suc k) F → Has k (nest T (outers_from (suc k) is ls) p F) (cells_of k (bag_of ss)))
+        → (c : SigCell) → Has k (nest T (outers_from (suc k) is ls) p (put E k c)) (cells_of k (bag_of ss))
+    body_has ls k E b d inner c = at_direction (directed k b)
+      where
+        at_direction : HasDirection signals k dir.Input ⊎ HasDirection signals k dir.Output → Has k (nest T (outers_from (suc k) is ls) p (put E k c)) (cells_of k (bag_of ss))
+        at_direction (inl h) = subst (Has k (nest T (outers_from (suc k) is ls) p (put E k c))) (sym (no_emission k h)) (nest_input ls (suc k) (put E k c) k (omega arith) h)
+        at_direction (inr h) = inner (put E k c) (λ s lt i.
+            let n : s ≢ k = λ e. one_direction signals k (subst (λ x. HasDirection signals x dir.Input) e i) h in
+            ap (λ (x : SigCell). x.status) (put_other E k c s n) ∙ d s (omega arith) i)
 
-  -- what is nested inside has the emissions of the next signal, whatever is put for it
-  body_has : (ls : List Last) (k : ℕ) (E : Env) → k < length signals → DecidesBelow k E
-    → ((F : Env) → DecidesBelow (suc k) F → Has k (nest T (outers_from (suc k) is ls) p F) (cells_of k (bag_of ss)))
-    → (c : SigCell) → Has k (nest T (outers_from (suc k) is ls) p (put E k c)) (cells_of k (bag_of ss))
-  body_has ls k E b d inner c = at_direction (directed k b)
-    where
-      at_direction : HasDirection signals k dir.Input ⊎ HasDirection signals k dir.Output → Has k (nest T (outers_from (suc k) is ls) p (put E k c)) (cells_of k (bag_of ss))
-      at_direction (inl h) = subst (Has k (nest T (outers_from (suc k) is ls) p (put E k c))) (sym (no_emission k h)) (nest_input ls (suc k) (put E k c) k (omega arith) h)
-      at_direction (inr h) = inner (put E k c) (λ s lt i.
-          let n : s ≢ k = λ e. one_direction signals k (subst (λ x. HasDirection signals x dir.Input) e i) h in
-          ap (λ (x : SigCell). x.status) (put_other E k c s n) ∙ d s (omega arith) i)
+    solve_is : (ls : List Last) (k : ℕ) (l : Last) (E : Env) → k < length signals → DecidesBelow k E
+        → ((F : Env) → DecidesBelow (suc k) F → Has k (nest T (outers_from (suc k) is ls) p F) (cells_of k (bag_of ss)))
+        → SolvedBy (all_cells given ss k) (solved_cell T (record { signal = k; last = l; given = given_to is k }) (nest T (outers_from (suc k) is ls) p) E)
+    solve_is ls k l E b d inner =
+        let o : Outer = record { signal = k; last = l; given = given_to is k } in
+        let q : Env → MustCan = nest T (outers_from (suc k) is ls) p in
+        let c = round T k (λ F. with_given o (q F)) E (unsolved l.status l.val) in
+        raised_by T k c (with_given o (q (put E k c))) (all_cells given ss k) (all_cells_known (given k) (cells_of k (bag_of ss)) (bag_known k ss)) (with_given_has k l (q (put E k c)) b (body_has ls k E b d inner c))
 
-  solve_is : (ls : List Last) (k : ℕ) (l : Last) (E : Env) → k < length signals → DecidesBelow k E
-    → ((F : Env) → DecidesBelow (suc k) F → Has k (nest T (outers_from (suc k) is ls) p F) (cells_of k (bag_of ss)))
-    → SolvedBy (all_cells given ss k) (solved_cell T (record { signal = k; last = l; given = given_to is k }) (nest T (outers_from (suc k) is ls) p) E)
-  solve_is ls k l E b d inner =
-      let o : Outer = record { signal = k; last = l; given = given_to is k } in
-      let q : Env → MustCan = nest T (outers_from (suc k) is ls) p in
-      let c = round T k (λ F. with_given o (q F)) E (unsolved l.status l.val) in
-      raised_by T k c (with_given o (q (put E k c))) (all_cells given ss k) (all_cells_known (given k) (cells_of k (bag_of ss)) (bag_known k ss)) (with_given_has k l (q (put E k c)) b (body_has ls k E b d inner c))
+    decides_next : (k : ℕ) (E : Env) (x : SigCell) → DecidesBelow k E → SolvedBy (all_cells given ss k) x → DecidesBelow (suc k) (put E k x)
+    decides_next k E x d h s lt i = at_test (same_or_not s k)
+      where
+        at_test : (((s == k) ≡ true) × (s ≡ k)) ⊎ (((s == k) ≡ false) × (s ≢ k)) → (put E k x s).status ≡ status_of (given s)
+        at_test (inl e) = rw e.0 (h.status ∙ status_given (given k) (cells_of k (bag_of ss)) (no_emission k (subst (λ y. HasDirection signals y dir.Input) e.1 i)) ∙ ap (λ y. status_of (given y)) (sym e.1))
+        at_test (inr e) = rw e.0 (let n : s ≢ k = e.1 in d s (omega arith) i)
 
-  decides_next : (k : ℕ) (E : Env) (x : SigCell) → DecidesBelow k E → SolvedBy (all_cells given ss k) x → DecidesBelow (suc k) (put E k x)
-  decides_next k E x d h s lt i = at_test (same_or_not s k)
-    where
-      at_test : (((s == k) ≡ true) × (s ≡ k)) ⊎ (((s == k) ≡ false) × (s ≢ k)) → (put E k x s).status ≡ status_of (given s)
-      at_test (inl e) = rw e.0 (h.status ∙ status_given (given k) (cells_of k (bag_of ss)) (no_emission k (subst (λ y. HasDirection signals y dir.Input) e.1 i)) ∙ ap (λ y. status_of (given y)) (sym e.1))
-      at_test (inr e) = rw e.0 (let n : s ≢ k = e.1 in d s (omega arith) i)
+    nest_has : (ls : List Last) (k : ℕ) (E : Env) → k + length ls ≡ length signals → DecidesBelow k E → (s : ℕ) → s < k → Has s (nest T (outers_from k is ls) p E) (cells_of s (bag_of ss))
+    nest_has [] k E e d s b = does E (record { at = λ r h. d r (omega (arith, slice_get_within signals r h.0 h.1)) h }) s
+    nest_has (l ∷ ls) k E e d s b =
+        let o : Outer = record { signal = k; last = l; given = given_to is k } in
+        let x = solved_cell T o (nest T (outers_from (suc k) is ls) p) E in
+        let more : suc k + length ls ≡ length signals = omega arith in
+        let y = solve_is ls k l E (omega arith) d (λ F g. nest_has ls (suc k) F more g k (omega arith)) in
+        let n : s ≢ k = omega arith in
+        has_outside s o (nest T (outers_from (suc k) is ls) p (put E k x)) (cells_of s (bag_of ss)) n (nest_has ls (suc k) (put E k x) more (decides_next k E x d y) s (omega arith))
 
-  nest_has : (ls : List Last) (k : ℕ) (E : Env) → k + length ls ≡ length signals → DecidesBelow k E → (s : ℕ) → s < k → Has s (nest T (outers_from k is ls) p E) (cells_of s (bag_of ss))
-  nest_has [] k E e d s b = does E (record { at = λ r h. d r (omega (arith, slice_get_within signals r h.0 h.1)) h }) s
-  nest_has (l ∷ ls) k E e d s b =
-      let o : Outer = record { signal = k; last = l; given = given_to is k } in
-      let x = solved_cell T o (nest T (outers_from (suc k) is ls) p) E in
-      let more : suc k + length ls ≡ length signals = omega arith in
-      let y = solve_is ls k l E (omega arith) d (λ F g. nest_has ls (suc k) F more g k (omega arith)) in
-      let n : s ≢ k = omega arith in
-      has_outside s o (nest T (outers_from (suc k) is ls) p (put E k x)) (cells_of s (bag_of ss)) n (nest_has ls (suc k) (put E k x) more (decides_next k E x d y) s (omega arith))
+    solved_outside : (ls : List Last) (k : ℕ) (E : Env) (s : ℕ) → s < k → solved T (outers_from k is ls) p E s ≡ E s
+    solved_outside [] k E s b = refl
+    solved_outside (l ∷ ls) k E s b =
+        let x = solved_cell T (record { signal = k; last = l; given = given_to is k }) (nest T (outers_from (suc k) is ls) p) E in
+        let n : s ≢ k = omega arith in
+        solved_outside ls (suc k) (put E k x) s (omega arith) ∙ put_other E k x s n
 
-  solved_outside : (ls : List Last) (k : ℕ) (E : Env) (s : ℕ) → s < k → solved T (outers_from k is ls) p E s ≡ E s
-  solved_outside [] k E s b = refl
-  solved_outside (l ∷ ls) k E s b =
-      let x = solved_cell T (record { signal = k; last = l; given = given_to is k }) (nest T (outers_from (suc k) is ls) p) E in
-      let n : s ≢ k = omega arith in
-      solved_outside ls (suc k) (put E k x) s (omega arith) ∙ put_other E k x s n
-
-  -- each signal is solved by the given input and the emissions
-  pub solved_by : (ls : List Last) (k : ℕ) (E : Env) → k + length ls ≡ length signals → DecidesBelow k E → (s : ℕ) → k ≤ s → s < length signals → SolvedBy (all_cells given ss s) (solved T (outers_from k is ls) p E s)
-  solved_by [] k E e d s b c = absurd (omega arith)
-  solved_by (l ∷ ls) k E e d s b c =
-      let x = solved_cell T (record { signal = k; last = l; given = given_to is k }) (nest T (outers_from (suc k) is ls) p) E in
-      let more : suc k + length ls ≡ length signals = omega arith in
-      let y = solve_is ls k l E (omega arith) d (λ F g. nest_has ls (suc k) F more g k (omega arith)) in
-      at_test (same_or_not s k) x y (λ (lt : suc k ≤ s). solved_by ls (suc k) (put E k x) more (decides_next k E x d y) s lt c)
-    where
-      at_test : (((s == k) ≡ true) × (s ≡ k)) ⊎ (((s == k) ≡ false) × (s ≢ k)) → (x : SigCell) → SolvedBy (all_cells given ss k) x
-        → (suc k ≤ s → SolvedBy (all_cells given ss s) (solved T (outers_from (suc k) is ls) p (put E k x) s))
-        → SolvedBy (all_cells given ss s) (solved T (outers_from (suc k) is ls) p (put E k x) s)
-      at_test (inl t) x y f = rw t.1 (rw (solved_outside ls (suc k) (put E k x) k (omega arith) ∙ put_same E k x) y)
-      at_test (inr t) x y f = f (let n : s ≢ k = t.1 in omega arith)
+    -- each signal is solved by the given input and the emissions
+    pub solved_by : (ls : List Last) (k : ℕ) (E : Env) → k + length ls ≡ length signals → DecidesBelow k E → (s : ℕ) → k ≤ s → s < length signals → SolvedBy (all_cells given ss s) (solved T (outers_from k is ls) p E s)
+    solved_by [] k E e d s b c = absurd (omega arith)
+    solved_by (l ∷ ls) k E e d s b c =
+        let x = solved_cell T (record { signal = k; last = l; given = given_to is k }) (nest T (outers_from (suc k) is ls) p) E in
+        let more : suc k + length ls ≡ length signals = omega arith in
+        let y = solve_is ls k l E (omega arith) d (λ F g. nest_has ls (suc k) F more g k (omega arith)) in
+        at_test (same_or_not s k) x y (λ (lt : suc k ≤ s). solved_by ls (suc k) (put E k x) more (decides_next k E x d y) s lt c)
+      where
+        at_test : (((s == k) ≡ true) × (s ≡ k)) ⊎ (((s == k) ≡ false) × (s ≢ k)) → (x : SigCell) → SolvedBy (all_cells given ss k) x
+            → (suc k ≤ s → SolvedBy (all_cells given ss s) (solved T (outers_from (suc k) is ls) p (put E k x) s))
+            → SolvedBy (all_cells given ss s) (solved T (outers_from (suc k) is ls) p (put E k x) s)
+        at_test (inl t) x y f = rw t.1 (rw (solved_outside ls (suc k) (put E k x) k (omega arith) ∙ put_same E k x) y)
+        at_test (inr t) x y f = f (let n : s ≢ k = t.1 in omega arith)

@@ -54,9 +54,9 @@ pub record Clear (a b : Stepped) : Type 0 where
 
 leave_clear : (T : Table) (s : ℕ) (a : Stepped) → IsPureTable T → Clear (leave T s a) a
 leave_clear T s a h = record {
-    faults = rw (no_overflow (T.word s) (values_of T s a.bag) (h s).1) refl;
-    doubled = rw (no_several (T.kind s) (T.word s) (values_of T s a.bag) (h s).0 (h s).1) refl;
-  }
+  faults = rw (no_overflow (T.word s) (values_of T s a.bag) (h s).1) refl;
+  doubled = rw (no_several (T.kind s) (T.word s) (values_of T s a.bag) (h s).0 (h s).1) refl;
+}
 
 leave_all_clear : (T : Table) (os : List Outer) (a : Stepped) → IsPureTable T → Clear (leave_all T os a) a
 leave_all_clear T [] a h = record { faults = refl; doubled = refl }
@@ -93,8 +93,8 @@ undecided_none is (l ∷ ls) k E h = rw (h k (omega arith) (omega arith)) (undec
 
 -- what is present among the interface signals from k on
 present_from : (signals : List SignalDecl) (f : ℕ → Bool) (is : List (ℕ × Value)) (bag : Bag) (E : Env) (ls : List Last) (k : ℕ)
-  → ((s : ℕ) → k ≤ s → s < k + length ls → (is_present (E s).status && is_output_at signals s) ≡ f s)
-  → passing_below f k ++ present_outputs signals (map (now_of E bag) (outers_from k is ls)) ≡ passing_below f (k + length ls)
+    → ((s : ℕ) → k ≤ s → s < k + length ls → (is_present (E s).status && is_output_at signals s) ≡ f s)
+    → passing_below f k ++ present_outputs signals (map (now_of E bag) (outers_from k is ls)) ≡ passing_below f (k + length ls)
 present_from signals f is bag E [] k h = let e : k ≡ k + length {A = Last} [] = omega arith in append-nil (passing_below f k) ∙ ap (passing_below f) e
 present_from signals f is bag E (l ∷ ls) k h =
     let e : suc k + length ls ≡ k + length (l ∷ ls) = omega arith in
@@ -110,7 +110,7 @@ emitted_present s [] = refl
 emitted_present s (r ∷ ss) = at_test (r == s) (emitted_present s ss)
   where
     at_test : (v : Bool) → is_present (status_by (cells_of s (bag_of ss)) (cells_of s (bag_of ss))) ≡ is_among ss s
-      → is_present (status_by (cond v (cell.Known value.Unit ∷ cells_of s (bag_of ss)) (cells_of s (bag_of ss))) (cond v (cell.Known value.Unit ∷ cells_of s (bag_of ss)) (cells_of s (bag_of ss)))) ≡ cond v true (is_among ss s)
+        → is_present (status_by (cond v (cell.Known value.Unit ∷ cells_of s (bag_of ss)) (cells_of s (bag_of ss))) (cond v (cell.Known value.Unit ∷ cells_of s (bag_of ss)) (cells_of s (bag_of ss)))) ≡ cond v true (is_among ss s)
     at_test true h = refl
     at_test false h = h
 
@@ -158,7 +158,7 @@ pure_at : (K : Kernel) → AllByRecursion IsFirstSignal K.signals → IsPureTabl
 pure_at K h s = at_place K.signals s h
   where
     at_place : (signals : List SignalDecl) (s : ℕ) → AllByRecursion IsFirstSignal signals
-      → ((elim (slice_get signals s) [ Some d ↦ d.kind | None ↦ kind.Pure ]) ≡ kind.Pure) × (◌≡◌ {A = Option CombineWord} (elim (slice_get signals s) [ Some d ↦ d.combine | None ↦ None ]) None)
+        → ((elim (slice_get signals s) [ Some d ↦ d.kind | None ↦ kind.Pure ]) ≡ kind.Pure) × (◌≡◌ {A = Option CombineWord} (elim (slice_get signals s) [ Some d ↦ d.combine | None ↦ None ]) None)
     at_place [] s h = (refl, refl)
     at_place (d ∷ signals) zero h = (h.0.pure, h.0.combine)
     at_place (d ∷ signals) (suc s) h = at_place signals s h.1
@@ -189,7 +189,7 @@ next_rests p (Some m) k = k
 walk_runs : (signals : List SignalDecl) (p : Statement) (last : ℕ) (c : Control) (w : Walked) → IsFirstStatement signals p → Keeps signals p w → RunIs signals p last c (record { stepped = stepped_of w; code = Some w.code }) (reacted w)
 walk_runs signals p last c w h k = record { bag = refl; faults = refl; doubled = refl; code = refl; next = next_is signals p last w.next h k.next; outputs = k.outputs; rests = next_rests p w.next k.next }
 
-run_is : (signals : List SignalDecl) (given : ℕ → Bool) (p : Statement) (last : ℕ) (c : Control) → IsFirstStatement signals p → IsControlOf p c → RunIs signals p last c (run_of given p c) (program_walk given p c)
+pub run_is : (signals : List SignalDecl) (given : ℕ → Bool) (p : Statement) (last : ℕ) (c : Control) → IsFirstStatement signals p → IsControlOf p c → RunIs signals p last c (run_of given p c) (program_walk given p c)
 run_is signals given p last Fresh h k = walk_runs signals p last Fresh (walk given p Start) h (walk_keeps signals given p Start h tt)
 run_is signals given p last (At m) h k = walk_runs signals p last (At m) (walk given p (Resume m)) h (walk_keeps signals given p (Resume m) h k)
 run_is signals given p last Ended h k = record { bag = refl; faults = refl; doubled = refl; code = refl; next = refl; outputs = tt; rests = tt }
@@ -253,61 +253,60 @@ module _
     (K : Kernel) (L : IsFirstLanguage K) (c : Control) (rests : IsControlOf K.statement c)
     (inputs : List ℕ) (are : AllByRecursion (λ s. HasDirection K.signals s dir.Input) inputs)
     (given : ℕ → Bool) (as_inputs : (s : ℕ) → s < length K.signals → given s ≡ is_among inputs s)
-    where
+  where
+    directed : (s : ℕ) → s < length K.signals → HasDirection K.signals s dir.Input ⊎ HasDirection K.signals s dir.Output
+    directed s b = direction_at K.signals s L.signals b
 
-  directed : (s : ℕ) → s < length K.signals → HasDirection K.signals s dir.Input ⊎ HasDirection K.signals s dir.Output
-  directed s b = direction_at K.signals s L.signals b
+    not_given : (s : ℕ) → HasDirection K.signals s dir.Output → given s ≡ false
+    not_given s o = as_inputs s (slice_get_within K.signals s o.0 o.1) ∙ among_inputs K.signals inputs s are o
 
-  not_given : (s : ℕ) → HasDirection K.signals s dir.Output → given s ≡ false
-  not_given s o = as_inputs s (slice_get_within K.signals s o.0 o.1) ∙ among_inputs K.signals inputs s are o
+    as_given : (s : ℕ) → s < length K.signals → given_to (pure_inputs inputs) s ≡ value_given (given s)
+    as_given s b = given_pure inputs s ∙ ap value_given (sym (as_inputs s b))
 
-  as_given : (s : ℕ) → s < length K.signals → given_to (pure_inputs inputs) s ≡ value_given (given s)
-  as_given s b = given_pure inputs s ∙ ap value_given (sym (as_inputs s b))
+    abbrev environment : List Last → Env
+    environment before = solved (table_of K) (outers_from 0 (pure_inputs inputs) before) (program_must_can (table_of K) K.statement c) blank
 
-  abbrev environment : List Last → Env
-  environment before = solved (table_of K) (outers_from 0 (pure_inputs inputs) before) (program_must_can (table_of K) K.statement c) blank
+    abbrev emissions : List ℕ
+    emissions = (program_walk given K.statement c).emitted
 
-  abbrev emissions : List ℕ
-  emissions = (program_walk given K.statement c).emitted
+    all_solved : (before : List Last) → length before ≡ length K.signals → AreOutputs K.signals emissions → (s : ℕ) → s < length K.signals → SolvedBy (all_cells given emissions s) (environment before s)
+    all_solved before e h s b =
+        solved_by K.signals (table_of K) given (pure_inputs inputs) (program_must_can (table_of K) K.statement c) emissions directed as_given h
+        (program_free K.signals (table_of K) K.statement c L.statement rests)
+        (program_does K.signals (table_of K) given K.statement c L.statement rests)
+        before 0 blank (omega arith) (λ r lt i. absurd (omega arith)) s (omega arith) b
 
-  all_solved : (before : List Last) → length before ≡ length K.signals → AreOutputs K.signals emissions → (s : ℕ) → s < length K.signals → SolvedBy (all_cells given emissions s) (environment before s)
-  all_solved before e h s b =
-      solved_by K.signals (table_of K) given (pure_inputs inputs) (program_must_can (table_of K) K.statement c) emissions directed as_given h
-      (program_free K.signals (table_of K) K.statement c L.statement rests)
-      (program_does K.signals (table_of K) given K.statement c L.statement rests)
-      before 0 blank (omega arith) (λ r lt i. absurd (omega arith)) s (omega arith) b
+    none_left : (before : List Last) → length before ≡ length K.signals → AreOutputs K.signals emissions → undecided (environment before) (outers_from 0 (pure_inputs inputs) before) ≡ []
+    none_left before e h = undecided_none (pure_inputs inputs) before 0 (environment before) (λ s a b.
+        let y = all_solved before e h s (omega arith) in
+        and_true (is_decided (environment before s).status) (is_known (environment before s).value) (decided_by (all_cells given emissions s) (environment before s) y) y.known)
 
-  none_left : (before : List Last) → length before ≡ length K.signals → AreOutputs K.signals emissions → undecided (environment before) (outers_from 0 (pure_inputs inputs) before) ≡ []
-  none_left before e h = undecided_none (pure_inputs inputs) before 0 (environment before) (λ s a b.
-      let y = all_solved before e h s (omega arith) in
-      and_true (is_decided (environment before s).status) (is_known (environment before s).value) (decided_by (all_cells given emissions s) (environment before s) y) y.known)
-
-  -- the reaction completes, and this is its answer
-  pub answers : (f : ℕ → Bool) → ((s : ℕ) → s < length K.signals → f s ≡ is_among emissions s)
-    → IsStepOf K c inputs (passing_below f (length K.signals)) (program_walk given K.statement c).code (program_walk given K.statement c).next
-  answers f as_emitted before same last =
-      let T = table_of K in
-      let os = outers_from 0 (pure_inputs inputs) before in
-      let E = environment before in
-      let r = run_of given K.statement c in
-      let run = run_is K.signals given K.statement last c L.statement rests in
-      let e : length before ≡ length K.signals = same ∙ L.interface in
-      let y = all_solved before e run.outputs in
-      let d = decides_all K.signals given emissions E run.outputs y in
-      let here : (s : ℕ) → 0 ≤ s → s < 0 + length before → (is_present (E s).status && is_output_at K.signals s) ≡ f s =
+    -- the reaction completes, and this is its answer
+    pub answers : (f : ℕ → Bool) → ((s : ℕ) → s < length K.signals → f s ≡ is_among emissions s)
+        → IsStepOf K c inputs (passing_below f (length K.signals)) (program_walk given K.statement c).code (program_walk given K.statement c).next
+    answers f as_emitted before same last =
+        let T = table_of K in
+        let os = outers_from 0 (pure_inputs inputs) before in
+        let E = environment before in
+        let r = run_of given K.statement c in
+        let run = run_is K.signals given K.statement last c L.statement rests in
+        let e : length before ≡ length K.signals = same ∙ L.interface in
+        let y = all_solved before e run.outputs in
+        let d = decides_all K.signals given emissions E run.outputs y in
+        let here : (s : ℕ) → 0 ≤ s → s < 0 + length before → (is_present (E s).status && is_output_at K.signals s) ≡ f s =
         λ s a b. present_is K.signals given emissions s (E s) run.outputs (directed s (omega arith)) (not_given s) (y s (omega arith)) ∙ sym (as_emitted s (omega arith)) in
-      let count : 0 + length before ≡ length K.signals = omega arith in
-      record {
-        completed = completed T os c last E r;
-        completes =
-          ap (λ v. elim v [ [] ↦ concluded T os c last E (program_step T K.statement c E) | s ∷ ss ↦ Undecided (s ∷ ss) ]) (none_left before e run.outputs)
-          ∙ ap (concluded T os c last E) (program_runs K.signals T given K.statement c L.statement rests E d)
-          ∙ judged_clear T os c last E r (pure_at K L.signals) run.faults run.doubled;
-        interface = length_nows E r.stepped.bag os ∙ length_outers (pure_inputs inputs) before 0 ∙ same;
-        signals = ap (passing_below f) (sym count) ∙ sym (present_from K.signals f (pure_inputs inputs) r.stepped.bag E before 0 here);
-        code = sym run.code;
-        next = sym run.next;
-      }
+        let count : 0 + length before ≡ length K.signals = omega arith in
+        record {
+          completed = completed T os c last E r;
+          completes =
+              ap (λ v. elim v [ [] ↦ concluded T os c last E (program_step T K.statement c E) | s ∷ ss ↦ Undecided (s ∷ ss) ]) (none_left before e run.outputs)
+              ∙ ap (concluded T os c last E) (program_runs K.signals T given K.statement c L.statement rests E d)
+              ∙ judged_clear T os c last E r (pure_at K L.signals) run.faults run.doubled;
+          interface = length_nows E r.stepped.bag os ∙ length_outers (pure_inputs inputs) before 0 ∙ same;
+          signals = ap (passing_below f) (sym count) ∙ sym (present_from K.signals f (pure_inputs inputs) r.stepped.bag E before 0 here);
+          code = sym run.code;
+          next = sym run.next;
+        }
 
-  pub next_rests_in : IsControlOf K.statement (program_walk given K.statement c).next
-  next_rests_in = (run_is K.signals given K.statement 0 c L.statement rests).rests
+    pub next_rests_in : IsControlOf K.statement (program_walk given K.statement c).next
+    next_rests_in = (run_is K.signals given K.statement 0 c L.statement rests).rests

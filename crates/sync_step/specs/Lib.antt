@@ -1,3 +1,4 @@
 pub mod Walk
 pub mod Walking
 pub mod Steps
+pub mod Running
