@@ -1,6 +1,5 @@
 -- The cells of one signal in bags, through hiding and through given inputs.
-use Rattle.std.proofs.Common.{◌≡◌, ◌≢◌, refl, sym, ap, ◌∙◌, subst, ℕ, ◌<◌, Bool, true, false, cond, ◌==◌, eqb-true, eq-eqb, Option, Some, None, List, [], ◌∷◌, ◌++◌, ◌⊎◌, inl, inr, length, append-nil, arith}
-use Rattle.std.specs.Prelude.{slice_get}
+use Rattle.std.proofs.Common.{◌≡◌, ◌≢◌, refl, sym, ap, ◌∙◌, subst, ℕ, Bool, true, false, cond, ◌==◌, eqb-true, eq-eqb, Option, Some, None, List, [], ◌∷◌, ◌++◌, ◌⊎◌, inl, inr, arith}
 use Rattle.std.proofs.lemmas.Bool.Decides.{nat_tests}
 use Rattle.hh_base.specs.declared.value.Value.{Value}
 use Rattle.hh_base.specs.declared.value.Value.TheVariants as value
@@ -12,12 +11,11 @@ use Rattle.host_expr.specs.Evaluation.{eval_of}
 use Rattle.hh_term.specs.declared.program.SignalDecl.{SignalDecl}
 use Rattle.hh_term.specs.declared.program.Dir.TheVariants as dir
 use Rattle.hh_term.specs.Statement.{Statement, Nothing, Pause, Emit, If, Seq}
-use Rattle.hh_term.specs.Selection.{Selection, AtPause, First, Second, Task, Start, Resume}
+use Rattle.hh_term.specs.Selection.{First, Second, Task, Start, Resume}
 use Rattle.hh_term.specs.FirstLanguage.{IsFirstStatement, HasDirection}
-use Rattle.hh_term.specs.MustCan.{Table, MustCan, Bag, Index, Executed, Possible, must_can, gives, sequence, chosen, one_of, cells_of, without, hide, is_end}
+use Rattle.hh_term.specs.MustCan.{Table, MustCan, Bag, Index, Executed, Possible, must_can, gives, sequence, chosen, cells_of, without, hide, is_end}
 use Rattle.hh_term.specs.Reaction.{Outer, given_bag, with_given}
-use Rattle.sync_step.proofs.WalkLaws.{bag_of, IsTaskOf}
-use Rattle.sync_step.proofs.WalkEnds.{AreOutputs}
+use Rattle.sync_step.proofs.WalkLaws.{IsTaskOf}
 
 -- a test for equality, decided
 pub same_or_not : (a b : ℕ) → (((a == b) ≡ true) × (a ≡ b)) ⊎ (((a == b) ≡ false) × (a ≢ b))

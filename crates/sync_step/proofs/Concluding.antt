@@ -1,5 +1,5 @@
 -- The values that the code computes are the answer of the reaction.
-use Rattle.std.proofs.Common.{◌≡◌, refl, sym, ap, ◌∙◌, subst, ℕ, zero, suc, ◌<◌, Bool, Option, Some, None, List, [], ◌∷◌, ◌++◌, length, get_or, arith}
+use Rattle.std.proofs.Common.{◌≡◌, refl, sym, ap, ◌∙◌, subst, ℕ, zero, suc, ◌<◌, Bool, None, List, [], ◌∷◌, length, get_or, arith}
 use Rattle.std.specs.List.{AllByRecursion}
 use Rattle.std.proofs.lemmas.Option.{slice_get_within}
 use Rattle.host_expr.specs.Expression.{Now}
@@ -15,9 +15,9 @@ use Rattle.sync_step.specs.declared.reaction.End.{End}
 use Rattle.sync_step.specs.Walk.{program_walk}
 use Rattle.sync_step.specs.Walking.{flag_of, is_among, passing_below}
 use Rattle.sync_step.specs.Running.{Runs}
-use Rattle.sync_step.specs.Steps.{IsStepOf, Answers}
+use Rattle.sync_step.specs.Steps.{IsStepOf}
 use Rattle.sync_step.proofs.WalkEnds.{AreOutputs}
-use Rattle.sync_step.proofs.Reacts.{run_is, answers, next_rests_in}
+use Rattle.sync_step.proofs.Reacts.{run_is, answers}
 
 -- the answer, put together
 pub concludes : (K : Kernel) (L : IsFirstLanguage K) (c : Control) → IsControlOf K.statement c → (inputs : List ℕ) → AllByRecursion (λ s. HasDirection K.signals s dir.Input) inputs

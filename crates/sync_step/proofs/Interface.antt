@@ -1,6 +1,6 @@
 -- The interface signals of a program of the first language, solved as nested scopes: each input is as it is given, and each output
 -- as the statement emits it.
-use Rattle.std.proofs.Common.{◌≡◌, ◌≢◌, refl, sym, ap, ◌∙◌, subst, ℕ, suc, ◌+◌, ◌<◌, ◌≤◌, Bool, true, false, cond, ◌==◌, eq-eqb, Option, Some, None, List, [], ◌∷◌, ◌++◌, ◌⊎◌, inl, inr, length, append-nil, arith}
+use Rattle.std.proofs.Common.{◌≡◌, ◌≢◌, refl, sym, ap, ◌∙◌, subst, ℕ, suc, ◌+◌, ◌<◌, ◌≤◌, Bool, true, false, cond, ◌==◌, eq-eqb, Option, Some, None, List, [], ◌∷◌, ◌++◌, ◌⊎◌, inl, inr, length, arith}
 use Rattle.std.proofs.lemmas.Option.{slice_get_within}
 use Rattle.hh_base.specs.declared.value.Value.{Value}
 use Rattle.hh_base.specs.declared.value.Value.TheVariants as value
@@ -9,12 +9,12 @@ use Rattle.hh_base.specs.declared.value.CombineWord.{CombineWord}
 use Rattle.host_expr.specs.declared.cell.Cell.{Cell}
 use Rattle.host_expr.specs.declared.cell.Cell.TheVariants as cell
 use Rattle.host_expr.specs.declared.cell.SigCell.{SigCell}
-use Rattle.host_expr.specs.Environment.{Env, is_known, is_decided, put, unsolved}
+use Rattle.host_expr.specs.Environment.{Env, is_known, put, unsolved}
 use Rattle.hh_term.specs.declared.program.SignalDecl.{SignalDecl}
 use Rattle.hh_term.specs.declared.program.Dir.TheVariants as dir
 use Rattle.hh_term.specs.FirstLanguage.{HasDirection}
-use Rattle.hh_term.specs.MustCan.{Table, MustCan, Bag, cells_of, status_by, value_by, all_known, raised, round}
-use Rattle.hh_term.specs.Reaction.{Last, Outer, given_bag, with_given, solved_cell, nest, solved, undecided, given_to, outers_from}
+use Rattle.hh_term.specs.MustCan.{Table, MustCan, cells_of, status_by, value_by, all_known, raised, round}
+use Rattle.hh_term.specs.Reaction.{Last, Outer, given_bag, with_given, solved_cell, nest, solved, given_to, outers_from}
 use Rattle.sync_step.proofs.WalkLaws.{bag_of, status_of, Decides}
 use Rattle.sync_step.proofs.WalkEnds.{AreOutputs}
 use Rattle.sync_step.proofs.Bags.{same_or_not, not_same, cells-append, Has, has_outside, one_direction, OnlyOutputs, no_input}

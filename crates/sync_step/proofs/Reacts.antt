@@ -1,8 +1,8 @@
 -- The reaction of a program of the first language completes, with what the walk of its statement gives.
-use Rattle.std.proofs.Common.{◌≡◌, ◌≢◌, refl, sym, ap, ◌∙◌, subst, ℕ, zero, suc, ◌+◌, ◌<◌, ◌≤◌, Bool, true, false, cond, ◌==◌, ◌&&◌, Option, Some, None, List, [], ◌∷◌, ◌++◌, map, ◌⊎◌, inl, inr, length, fold, append-nil, append_assoc, arith}
+use Rattle.std.proofs.Common.{◌≡◌, refl, sym, ap, ◌∙◌, subst, ℕ, zero, suc, ◌+◌, ◌<◌, ◌≤◌, Bool, true, false, cond, ◌==◌, ◌&&◌, Option, Some, None, List, [], ◌∷◌, ◌++◌, map, ◌⊎◌, inl, inr, length, fold, append-nil, append_assoc, arith}
 use Rattle.std.specs.Prelude.{slice_get}
 use Rattle.std.specs.List.{AllByRecursion}
-use Rattle.std.proofs.lemmas.Option.{slice_get_within, slice_get_past}
+use Rattle.std.proofs.lemmas.Option.{slice_get_within}
 use Rattle.hh_base.specs.declared.value.Pos.{Pos}
 use Rattle.hh_base.specs.declared.value.FaultKind.{FaultKind}
 use Rattle.hh_base.specs.declared.value.Value.{Value}
@@ -19,20 +19,20 @@ use Rattle.hh_term.specs.declared.program.Dir.{Dir}
 use Rattle.hh_term.specs.declared.program.Dir.TheVariants as dir
 use Rattle.hh_term.specs.declared.program.SignalDecl.{SignalDecl}
 use Rattle.hh_term.specs.FirstLanguage.{HasDirection, IsFirstSignal, IsFirstLanguage, IsOneWay, IsFirstStatement}
-use Rattle.hh_term.specs.Kernel.{Kernel, kind_at, word_at}
+use Rattle.hh_term.specs.Kernel.{Kernel}
 use Rattle.hh_term.specs.Statement.{Statement}
 use Rattle.hh_term.specs.Selection.{Selection, Control, Fresh, At, Ended, Start, Resume}
-use Rattle.hh_term.specs.Marks.{IsMarkOf, IsControlOf}
+use Rattle.hh_term.specs.Marks.{IsControlOf}
 use Rattle.hh_term.specs.MustCan.{Table, table_of, MustCan, Bag, Executed, must_can, cells_of, status_by}
-use Rattle.hh_term.specs.Step.{Stepped, leave, overflow_by, doubled_by, values_of}
+use Rattle.hh_term.specs.Step.{Stepped, leave, values_of}
 use Rattle.hh_term.specs.Touches.{marks_numbered}
-use Rattle.hh_term.specs.Reaction.{Last, Outer, Now, Ran, Completed, Completes, Outcome, Undecided, Doubled, Faulted, first_declared, earlier, idle, given_bag, program_must_can, program_step, solved, undecided, leave_all, now_of, control_after, completed, judged, concluded, react, given_to, outers_from, reaction}
+use Rattle.hh_term.specs.Reaction.{Last, Outer, Ran, Completes, Outcome, Undecided, Doubled, Faulted, first_declared, earlier, idle, given_bag, program_must_can, program_step, solved, undecided, leave_all, now_of, control_after, completed, judged, concluded, given_to, outers_from}
 use Rattle.sync_step.specs.Walk.{Walked, walk, Reacted, reacted, control_at, program_walk}
 use Rattle.sync_step.specs.Walking.{is_among, passing_below}
-use Rattle.sync_step.specs.Steps.{pure_inputs, is_output, is_output_at, present_outputs, Answers, IsStepOf}
-use Rattle.sync_step.proofs.WalkLaws.{bag_of, status_of, Decides, Does, IsTaskOf, walk_does, stepped_of, walk_steps}
+use Rattle.sync_step.specs.Steps.{pure_inputs, is_output_at, present_outputs, IsStepOf}
+use Rattle.sync_step.proofs.WalkLaws.{bag_of, Decides, Does, walk_does, stepped_of, walk_steps}
 use Rattle.sync_step.proofs.WalkEnds.{AreOutputs, NextIn, Keeps, walk_keeps, numbered_same}
-use Rattle.sync_step.proofs.Bags.{same_or_not, not_same, Has, no_input, one_direction, EmitsOutputs, emits_outputs}
+use Rattle.sync_step.proofs.Bags.{not_same, Has, no_input, one_direction, emits_outputs}
 use Rattle.sync_step.proofs.Interface.{value_given, given_cells, SolvedBy, all_cells, solved_by, status_given, bag_outputs}
 
 -- pure signals without a combine word

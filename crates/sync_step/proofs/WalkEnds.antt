@@ -1,6 +1,5 @@
 -- Where control rests after a walk, and what it emits.
-use Rattle.std.proofs.Common.{◌≡◌, refl, sym, ap, ◌∙◌, ℕ, zero, suc, Bool, true, false, cond, Option, Some, None, List, [], ◌∷◌, ◌++◌}
-use Rattle.std.specs.List.{AllByRecursion}
+use Rattle.std.proofs.Common.{◌≡◌, refl, ap, ℕ, zero, suc, Bool, true, false, cond, Option, Some, None, List, [], ◌∷◌, ◌++◌}
 use Rattle.host_expr.specs.Expression.{Now}
 use Rattle.hh_term.specs.declared.program.SignalDecl.{SignalDecl}
 use Rattle.hh_term.specs.declared.program.Dir.TheVariants as dir
@@ -10,7 +9,7 @@ use Rattle.hh_term.specs.FirstLanguage.{IsFirstStatement, HasDirection}
 use Rattle.hh_term.specs.Step.{mark_map}
 use Rattle.hh_term.specs.Touches.{marks_numbered}
 use Rattle.hh_term.specs.Marks.{IsMarkOf}
-use Rattle.sync_step.specs.Walk.{Walked, ends, rests, emits, part, followed, walk}
+use Rattle.sync_step.specs.Walk.{Walked, part, followed, walk}
 use Rattle.sync_step.proofs.WalkLaws.{IsTaskOf}
 
 -- no mark, or one of the statement

@@ -1,26 +1,23 @@
 -- What a statement of the first language must do, can do and does is its walk, where the inputs are decided.
-use Rattle.std.proofs.Common.{◌≡◌, refl, sym, ap, ◌∙◌, ℕ, zero, suc, Bool, true, false, cond, Option, Some, None, List, [], ◌∷◌, ◌++◌, append-nil, ◌==◌, arith}
+use Rattle.std.proofs.Common.{◌≡◌, refl, sym, ap, ◌∙◌, ℕ, zero, suc, Bool, true, false, cond, Some, None, List, [], ◌∷◌, ◌++◌, append-nil, ◌==◌, arith}
 use Rattle.std.proofs.lemmas.Bool.Decides.{nat_tests}
-use Rattle.std.specs.List.{AllByRecursion}
 use Rattle.hh_base.specs.declared.value.Tri.{Tri}
-use Rattle.hh_base.specs.declared.value.Tri.TheVariants.{Unknown, Zero, One}
+use Rattle.hh_base.specs.declared.value.Tri.TheVariants.{Zero, One}
 use Rattle.hh_base.specs.declared.value.Value.TheVariants as value
 use Rattle.host_expr.specs.declared.cell.Cell.{Cell}
 use Rattle.host_expr.specs.declared.cell.Cell.TheVariants as cell
-use Rattle.host_expr.specs.declared.cell.SigCell.{SigCell}
-use Rattle.host_expr.specs.Expression.{Expression, Now}
+use Rattle.host_expr.specs.Expression.{Now}
 use Rattle.host_expr.specs.Environment.{Env}
 use Rattle.host_expr.specs.Evaluation.{eval_of}
 use Rattle.hh_term.specs.declared.program.SignalDecl.{SignalDecl}
 use Rattle.hh_term.specs.declared.program.Dir.TheVariants as dir
 use Rattle.hh_term.specs.Statement.{Statement, Nothing, Pause, Emit, If, Seq}
-use Rattle.hh_term.specs.Selection.{Selection, AtPause, First, Second, Task, Start, Resume}
+use Rattle.hh_term.specs.Selection.{Selection, First, Second, Task, Start, Resume}
 use Rattle.hh_term.specs.FirstLanguage.{IsFirstStatement, HasDirection}
-use Rattle.hh_term.specs.MustCan.{Table, MustCan, Bag, Index, Executed, Possible, must_can, gives, sequence, chosen, one_of}
-use Rattle.hh_term.specs.Step.{Stepped, step, mark_map, then_start, wrap, wrapped}
-use Rattle.hh_term.specs.Touches.{marks_numbered}
+use Rattle.hh_term.specs.MustCan.{Table, MustCan, Bag, Index, Executed, Possible, must_can, sequence, chosen, one_of}
+use Rattle.hh_term.specs.Step.{Stepped, step, then_start}
 use Rattle.hh_term.specs.Marks.{IsMarkOf}
-use Rattle.sync_step.specs.Walk.{Walked, ends, rests, emits, part, followed, walk}
+use Rattle.sync_step.specs.Walk.{Walked, part, followed, walk}
 
 -- emissions of pure signals
 abbrev pub bag_of : List ℕ → Bag

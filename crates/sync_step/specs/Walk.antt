@@ -1,6 +1,6 @@
 -- One pass over a statement of the first language, where the given inputs are known: what it emits, its completion code and where
 -- control rests after it. (After Berry's constructive behaviour, for statements in which all is decided; this project's own.)
-use Rattle.std.specs.Prelude.{ℕ, zero, suc, Bool, true, false, cond, Option, Some, None, List, [], ◌∷◌, ◌++◌}
+use Rattle.std.specs.Prelude.{ℕ, zero, suc, Bool, false, cond, Option, Some, None, List, [], ◌∷◌, ◌++◌}
 use Rattle.host_expr.specs.Expression.{Expression, Now}
 use Rattle.hh_term.specs.Statement.{Statement, Nothing, Pause, Emit, If, Seq}
 use Rattle.hh_term.specs.Step.{mark_map}

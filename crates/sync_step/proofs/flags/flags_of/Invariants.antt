@@ -1,5 +1,4 @@
-use Rattle.std.proofs.Common.{◌≡◌, ◌<◌, ℕ, length, take}
-use Rattle.sync_step.specs.Walking.{flag_of, is_among}
+use Rattle.std.proofs.Common.{take}
 use Rattle.sync_step.proofs.Marking.{Marks}
 use Rattle.sync_step.proofs.flags.flags_of.Given as goal
 

@@ -1,4 +1,4 @@
-use Rattle.std.proofs.Common.{◌≡◌, ◌∙◌, sym, ap, subst}
+use Rattle.std.proofs.Common.{◌∙◌, sym, ap, subst}
 use Rattle.hh_term.specs.ControlIn.{control_in}
 use Rattle.hh_term.specs.Viewed.{kernel_of}
 use Rattle.hh_term.specs.Views.{control_of}
