@@ -1,0 +1,4 @@
+pub mod Cuts
+pub mod Lines
+pub mod Names
+pub mod Numbering
