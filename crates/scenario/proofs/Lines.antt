@@ -69,12 +69,12 @@ pub same_first : (text line rest other tail : List ℕ) → IsFirstLine text lin
 same_first text line rest other tail first lacks e =
     ⊎_elim
     (λ (ended : text ≡ line ++ 10 ∷ rest).
-      let parts = same_cut 10 line other (10 ∷ rest) (10 ∷ tail) first.no_line_end lacks refl refl (sym ended ∙ e) in
-      let tails : rest ≡ tail = (let t = parts.1 in cc) in
-      (parts.0, tails))
+    let parts = same_cut 10 line other (10 ∷ rest) (10 ∷ tail) first.no_line_end lacks refl refl (sym ended ∙ e) in
+    let tails : rest ≡ tail = (let t = parts.1 in cc) in
+    (parts.0, tails))
     (λ (last : (text ≡ line) × (rest ≡ [])).
-      let parts = same_cut 10 line other [] (10 ∷ tail) first.no_line_end lacks tt refl (append-nil line ∙ sym last.0 ∙ e) in
-      absurd (let t = parts.1 in cc))
+    let parts = same_cut 10 line other [] (10 ∷ tail) first.no_line_end lacks tt refl (append-nil line ∙ sym last.0 ∙ e) in
+    absurd (let t = parts.1 in cc))
     first.ends
 
 -- the whole text is a first line, and the other one does not end there
@@ -82,8 +82,8 @@ only_line : (text line rest other : List ℕ) → IsFirstLine text line rest →
 only_line text line rest other first lacks e =
     ⊎_elim
     (λ (ended : text ≡ line ++ 10 ∷ rest).
-      let parts = same_cut 10 other line [] (10 ∷ rest) lacks first.no_line_end tt refl (append-nil other ∙ sym e ∙ ended) in
-      absurd (let t = parts.1 in cc))
+    let parts = same_cut 10 other line [] (10 ∷ rest) lacks first.no_line_end tt refl (append-nil other ∙ sym e ∙ ended) in
+    absurd (let t = parts.1 in cc))
     (λ (last : (text ≡ line) × (rest ≡ [])). (sym last.0 ∙ e, last.1))
     first.ends
 
@@ -93,11 +93,11 @@ next signals names y ys text line rest are lines first =
     let lacks = spelling_lacks_end signals names y are in
     ⊎_elim
     (λ (last : (map (spelling signals) ys ≡ []) × (text ≡ spelling signals y)).
-      let parts = only_line text line rest (spelling signals y) first lacks last.1 in
-      (parts.0, subst (λ ls. AreLines ls rest) (sym last.0) parts.1))
+    let parts = only_line text line rest (spelling signals y) first lacks last.1 in
+    (parts.0, subst (λ ls. AreLines ls rest) (sym last.0) parts.1))
     (λ (more : (tail : List ℕ) × (text ≡ spelling signals y ++ 10 ∷ tail) × AreLines (map (spelling signals) ys) tail).
-      let parts = same_first text line rest (spelling signals y) more.0 first lacks more.1 in
-      (parts.0, subst (AreLines (map (spelling signals) ys)) (sym parts.1) more.2))
+    let parts = same_first text line rest (spelling signals y) more.0 first lacks more.1 in
+    (parts.0, subst (AreLines (map (spelling signals) ys)) (sym parts.1) more.2))
     lines
 
 -- the first line of a reading
@@ -106,9 +106,9 @@ first_of signals names x xs text are lines =
     let lacks = spelling_lacks_end signals names x are in
     ⊎_elim
     (λ (last : (map (spelling signals) xs ≡ []) × (text ≡ spelling signals x)).
-      ([], record { no_line_end = lacks; ends = inr (last.1, refl) }, subst (λ ls. AreLines ls []) (sym last.0) refl))
+    ([], record { no_line_end = lacks; ends = inr (last.1, refl) }, subst (λ ls. AreLines ls []) (sym last.0) refl))
     (λ (more : (tail : List ℕ) × (text ≡ spelling signals x ++ 10 ∷ tail) × AreLines (map (spelling signals) xs) tail).
-      (more.0, record { no_line_end = lacks; ends = inl more.1 }, more.2))
+    (more.0, record { no_line_end = lacks; ends = inl more.1 }, more.2))
     lines
 
 -- an empty text has no lines
@@ -182,10 +182,10 @@ pub all_lines : (signals : List SignalDecl) (text : List ℕ) (reactions : List 
 all_lines signals text reactions n rest noted none far = record {
   inputs = far.inputs_are;
   lines =
-    ⊎_elim
-    (λ (e : text ≡ ended signals reactions ++ rest). subst (AreLines (map (spelling signals) reactions)) (sym (e ∙ ap (λ r. ended signals reactions ++ r) none ∙ append-nil (ended signals reactions))) (lines_ended signals reactions))
-    (λ (last : (rest ≡ []) × AreLines (map (spelling signals) reactions) text). last.1)
-    far.text_is;
+      ⊎_elim
+      (λ (e : text ≡ ended signals reactions ++ rest). subst (AreLines (map (spelling signals) reactions)) (sym (e ∙ ap (λ r. ended signals reactions ++ r) none ∙ append-nil (ended signals reactions))) (lines_ended signals reactions))
+      (λ (last : (rest ≡ []) × AreLines (map (spelling signals) reactions) text). last.1)
+      far.text_is;
 }
 
 before_rest : (signals : List SignalDecl) (text : List ℕ) (reactions : List (List ℕ)) (n : ℕ) (rest noted : List ℕ) → rest ≢ [] → LinesSoFar signals text reactions n rest noted → text ≡ ended signals reactions ++ rest
@@ -197,17 +197,20 @@ before_rest signals text reactions n rest noted some far =
 
 -- at a line that is refused
 pub stop : (signals : List SignalDecl) (text : List ℕ) (reactions : List (List ℕ)) (n : ℕ) (rest noted line behind : List ℕ) → rest ≢ [] → IsFirstLine rest line behind → IsNoLine signals line → LinesSoFar signals text reactions n rest noted → IsFirstRefused signals text (n + 1)
-stop signals text reactions n rest noted line behind some first refused far =
-    (reactions, ap (λ k. k + 1) far.counted, record {
-      inputs = far.inputs_are;
-      behind = rest;
-      text_is = before_rest signals text reactions n rest noted some far;
-      some = some;
-      line = line;
-      rest = behind;
-      first = first;
-      refused = refused;
-    })
+stop signals text reactions n rest noted line behind some first refused far = (
+  reactions,
+  ap (λ k. k + 1) far.counted,
+  record {
+    inputs = far.inputs_are;
+    behind = rest;
+    text_is = before_rest signals text reactions n rest noted some far;
+    some = some;
+    line = line;
+    rest = behind;
+    first = first;
+    refused = refused;
+  },
+)
 
 -- the text behind one more line
 text_after : (signals : List SignalDecl) (text : List ℕ) (reactions : List (List ℕ)) (x rest line behind : List ℕ) → text ≡ ended signals reactions ++ rest → line ≡ spelling signals x → IsFirstLine rest line behind → (text ≡ ended signals (reactions ++ x ∷ []) ++ behind) ⊎ ((behind ≡ []) × AreLines (map (spelling signals) (reactions ++ x ∷ [])) text)

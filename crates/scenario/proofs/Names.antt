@@ -92,10 +92,10 @@ pub step : (signals : List SignalDecl) (names : List ℕ) (n : ℕ) (inputs rest
 step signals names n inputs rest noted c behind name more new s rest_is cut taken far =
     let P : ℕ → Type 0 = λ t. is_input_at signals t ≡ true in
     let apart : (k : ℕ) (d : ℕ) → k < length inputs → get_or inputs k d ≢ s =
-      λ k d l e. taken.once (subst (λ t. get_or noted t 0 ≡ n) e (far.marked k d l)) in
+    λ k d l e. taken.once (subst (λ t. get_or noted t 0 ≡ n) e (far.marked k d l)) in
     let space : c ≡ 32 = subst (StartsWith 32) rest_is far.starts in
     let spelled : rest ≡ (32 ∷ name_at signals s) ++ more =
-      (let w = cut.whole in let k = taken.named.called in cc) in
+    (let w = cut.whole in let k = taken.named.called in cc) in
     record {
       inputs_are = record {
         given = All-push P inputs s far.inputs_are.given taken.named.given;
@@ -124,8 +124,8 @@ refuse_next signals n inputs (s ∷ others) noted c behind name more has cut ref
     ⊎_elim
     (λ (none : LacksInput signals name). none s s_is (sym same))
     (λ (before : (t : ℕ) × IsNamed signals name t × (t < length noted) × (get_or noted t 0 ≡ n)).
-      let equal : before.0 ≡ s = same_input signals before.0 s has before.1.given s_is (before.1.called ∙ same) in
-      repeated inputs s others (subst (Contains inputs) equal (named before.0 before.2 before.3)) once)
+    let equal : before.0 ≡ s = same_input signals before.0 s has before.1.given s_is (before.1.called ∙ same) in
+    repeated inputs s others (subst (Contains inputs) equal (named before.0 before.2 before.3)) once)
     refused
 
 -- a name that is refused

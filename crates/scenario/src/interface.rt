@@ -5,7 +5,6 @@ ghost use Rattle.reactor.specs.Core.{name_at};
 ghost use Rattle.scenario.specs.Index.{IsIndex, number_of};
 ghost use Rattle.scenario.specs.Interface.{HasNames, LacksInput, interface_name, is_input, is_input_at};
 
-
 use hh_base::value::NoMemory;
 use hh_term::program::{Dir, SignalDecl};
 use std::alloc::Global;

@@ -11,8 +11,8 @@ loop-number-preserved c =
     let d = c.index-signals-number.result in
     let here : slice_get signals c.loop-number.number ≡ Some d = slice_get_read signals (length signals) c.loop-number.number d refl c.loop-number-test.true c.index-signals-number.is in
     elim c.match-interface_name.branch [
-      in-Some+in_ok-insert w ↦ rw w.numbers-is (adds signals c.loop-number.numbers w.insert.new.self c.loop-number.number d w.in-Some.name.now here (sym w.in-Some.ensures) w.in_ok-insert.ensures.updates c.loop-number.invariant)
-    | in_default w ↦ rw w.numbers-is (keeps signals c.loop-number.numbers c.loop-number.number d c.requires here (sym w.in_default.ensures) c.loop-number.invariant)
+      | in-Some+in_ok-insert w ↦ rw w.numbers-is (adds signals c.loop-number.numbers w.insert.new.self c.loop-number.number d w.in-Some.name.now here (sym w.in-Some.ensures) w.in_ok-insert.ensures.updates c.loop-number.invariant)
+      | in_default w ↦ rw w.numbers-is (keeps signals c.loop-number.numbers c.loop-number.number d c.requires here (sym w.in_default.ensures) c.loop-number.invariant)
     ]
 
 pub returns : goal.returns
