@@ -1,0 +1,5 @@
+pub mod Cuts
+pub mod Lines
+pub mod Names
+pub mod Numbering
+pub mod Printing

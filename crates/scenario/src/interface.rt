@@ -1,0 +1,73 @@
+//! The signals of an interface by name.
+ghost use Rattle.std.specs.Prelude.{◌≡◌, ◌<◌, ◌^◌, ℕ, true, List, length, slice_get, IfOk, MatchOption};
+ghost use Rattle.std.specs.Option.{option_copied};
+ghost use Rattle.reactor.specs.Core.{name_at};
+ghost use Rattle.scenario.specs.Index.{IsIndex, number_of};
+ghost use Rattle.scenario.specs.Interface.{HasNames, LacksInput, interface_name, is_input, is_input_at};
+
+use hh_base::value::NoMemory;
+use hh_term::program::{Dir, SignalDecl};
+use std::alloc::Global;
+use std::collections::HashMap;
+
+/// Declarations, and the number of each signal of the interface by its name.
+#[derive(Drop)]
+pub struct Interface<'a> {
+    pub signals: &'a [SignalDecl],
+    pub numbers: HashMap<&'a [u8], u32>,
+}
+
+fn is_input(dir: Dir) -> bool
+    ensures { result ≡ is_input dir }
+{
+    matches!(dir, Dir::Input)
+}
+
+/// The bytes of the name that the signal has in the interface.
+fn interface_name(signal: &SignalDecl) -> Option<&[u8]>
+    ensures { option_copied result ≡ interface_name signal.now }
+{
+    match &signal.name {
+        Some(name) if signal.dir != Dir::Local => Some(name.as_bytes()),
+        _ => None,
+    }
+}
+
+/// The numbers of the interface's signals by their names.
+fn number_names(alloc: Global, signals: &[SignalDecl]) -> Result<HashMap<&[u8], u32>, NoMemory>
+    requires { HasNames signals.now }
+    ensures { IfOk result (IsIndex signals.now) }
+{
+    let mut numbers = HashMap::new(alloc);
+    for (number, signal) in signals.iter().enumerate() {
+        if let Some(name) = interface_name(signal) {
+            numbers.insert(name, number as u32)?;
+        }
+    }
+    Ok(numbers)
+}
+
+impl<'a> Interface<'a> {
+    pub fn new(alloc: Global, signals: &'a [SignalDecl]) -> Result<Interface<'a>, NoMemory>
+        requires { HasNames signals.now }
+        ensures signals { IfOk result (λ i. i.signals.now ≡ signals.now) }
+        ensures index { IfOk result (λ i. IsIndex signals.now i.numbers) }
+    {
+        Ok(Interface {
+            signals,
+            numbers: number_names(alloc, signals)?,
+        })
+    }
+
+    /// The input of this name.
+    pub fn find_input(&self, name: &[u8]) -> Option<u32>
+        requires index { IsIndex self.now.signals.now self.now.numbers }
+        requires names { HasNames self.now.signals.now }
+        ensures { MatchOption result (LacksInput self.now.signals.now name.now)
+            (λ s. (is_input_at self.now.signals.now s ≡ true) × (name_at self.now.signals.now s ≡ name.now)) }
+    {
+        let number = *self.numbers.get(name)?;
+        let signal = &self.signals[number as usize];
+        is_input(signal.dir).then_some(number)
+    }
+}
