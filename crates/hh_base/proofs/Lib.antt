@@ -1,1 +1,3 @@
+pub mod Integers
+pub mod Quotes
 pub mod Utf8

@@ -3,6 +3,7 @@
 
 pub mod item;
 pub mod keyword;
+pub mod literal;
 pub mod memory;
 pub mod name;
 pub mod text;

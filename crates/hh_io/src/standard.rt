@@ -20,6 +20,13 @@ impl<R: Read> StdSource<R> {
     {
         StdSource { reader, faults: 0 }
     }
+
+    /// How often the reader has failed.
+    pub fn faults(&self) -> u64
+        ensures { result ≡ ⟦<StdSource<R> as Source>⟧.faults self.now }
+    {
+        self.faults
+    }
 }
 
 impl<R: Read> Source for StdSource<R> {
@@ -52,6 +59,19 @@ impl<W: Write> StdSink<W> {
         ensures faults { ⟦<StdSink<W> as Sink>⟧.faults result ≡ 0 }
     {
         StdSink { writer, faults: 0 }
+    }
+
+    /// How often the writer has failed, or taken nothing.
+    pub fn faults(&self) -> u64
+        ensures { result ≡ ⟦<StdSink<W> as Sink>⟧.faults self.now }
+    {
+        self.faults
+    }
+
+    pub fn into_writer(self) -> W
+        ensures { W.contents result ≡ ⟦<StdSink<W> as Sink>⟧.written self }
+    {
+        self.writer
     }
 }
 
