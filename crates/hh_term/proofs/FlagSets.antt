@@ -3,7 +3,7 @@ use Rattle.std.proofs.Common.{◌≡◌, ◌≢◌, refl, sym, ap, subst, ◌∙
 use Rattle.std.proofs.lemmas.List.{get_or_past, get_or-replicate}
 use Rattle.std.proofs.Math.ListN.{length-replicate, length-set}
 use Rattle.std.proofs.lemmas.Bool.{cases_lt, eqb-false}
-use Rattle.hh_term.specs.Codes.{CodeSet, up_to, either, in_turn, greater_of, without_end, lowered}
+use Rattle.hh_term.specs.Codes.{CodeSet, up_to, greater_of}
 use Rattle.hh_term.specs.Flags.{codes_in, Agrees}
 
 -- the first n flags are those of K now, and the rest are as before
@@ -11,9 +11,6 @@ pub record Overwritten (before : List Bool) (K : CodeSet) (n : ℕ) (flags : Lis
   pub len : length flags ≡ 258
   pub done : (k : ℕ) → k < n → get_or flags k false ≡ K k
   pub rest : (k : ℕ) → n ≤ k → get_or flags k false ≡ get_or before k false
-
-pub begin : (before : List Bool) (K : CodeSet) → length before ≡ 258 → Overwritten before K 0 before
-begin before K len = record { len = len; done = λ k h. absurd (omega arith); rest = λ k h. refl }
 
 -- one flag more
 pub overwrite : (before : List Bool) (K : CodeSet) (n : ℕ) (flags : List Bool) (b : Bool) → Overwritten before K n flags → n < 258 → b ≡ K n → Overwritten before K (n + 1) (set flags n b)
@@ -45,23 +42,8 @@ and_false : (a b : Bool) → b ≡ false → (a && b) ≡ false
 and_false true b h = h
 and_false false b h = refl
 
--- the sets past the flags
-pub either_past : (K L : CodeSet) (c : ℕ) → K c ≡ false → L c ≡ false → either K L c ≡ false
-either_past K L c h g = or_false (K c) (L c) h g
-
 pub greater_past : (K L : CodeSet) (c : ℕ) → K c ≡ false → L c ≡ false → greater_of K L c ≡ false
 greater_past K L c h g = or_false (K c && up_to L c) (up_to K c && L c) (ap (λ x. x && up_to L c) h) (and_false (up_to K c) (L c) g)
-
-pub lowered_past : (K : CodeSet) (c : ℕ) → ((d : ℕ) → 258 ≤ d → K d ≡ false) → 258 ≤ c → lowered K c ≡ false
-lowered_past K zero h l = absurd (omega arith)
-lowered_past K (suc zero) h l = absurd (omega arith)
-lowered_past K (suc (suc c)) h l = h (suc (suc (suc c))) (omega arith)
-
--- lowering reads only what is not overwritten yet
-pub lowered_rest : (before flags : List Bool) (n : ℕ) → ((k : ℕ) → n ≤ k → get_or flags k false ≡ get_or before k false) → lowered (codes_in flags) n ≡ lowered (codes_in before) n
-lowered_rest before flags zero h = ap (λ x. x || get_or flags 2 false) (h 0 (omega arith)) ∙ ap (λ x. get_or before 0 false || x) (h 2 (omega arith))
-lowered_rest before flags (suc zero) h = h 1 (omega arith)
-lowered_rest before flags (suc (suc n)) h = h (suc (suc (suc n))) (omega arith)
 
 pub only_set : (n k : ℕ) → k < n → (c : ℕ) → get_or (set (replicate n false) k true) c false ≡ eqb c k
 only_set n k h c = at_test (eqb c k) refl
@@ -75,38 +57,9 @@ only_set n k h c = at_test (eqb c k) refl
         ap (λ i. get_or (set (replicate n false) k true) i false) same ∙ get_or-set_same (replicate n false) k true false (omega (arith, length-replicate n false))
     at_test false e = get_or-set_other (replicate n false) k c true false (eqb-false c k e) ∙ off_everywhere
 
--- the first flag cleared
-pub no_end_set : (flags : List Bool) → 0 < length flags → (c : ℕ) → get_or (set flags 0 false) c false ≡ without_end (codes_in flags) c
-no_end_set flags h zero = get_or-set_same flags 0 false false h
-no_end_set flags h (suc c) = let ne : suc c ≢ 0 = omega arith in get_or-set_other flags 0 (suc c) false false ne
-
-pub turn_yes : (K L : CodeSet) (c : ℕ) → K 0 ≡ true → (without_end K c || L c) ≡ in_turn K L c
-turn_yes K L c h = ap (λ x. without_end K c || (x && L c)) (sym h)
-
--- where the first part may not end
-pub turn_no : (K L : CodeSet) (c : ℕ) → K 0 ≡ false → K c ≡ in_turn K L c
-turn_no K L zero h = h ∙ ap (λ x. x && L 0) (sym h)
-turn_no K L (suc c) h = or_nothing (K (suc c)) ∙ ap (λ x. K (suc c) || (x && L (suc c))) (sym h)
-  where
-    or_nothing : (a : Bool) → a ≡ (a || false)
-    or_nothing true = refl
-    or_nothing false = refl
-
--- sets that agree give sets that agree
-pub either_cong : (K K' L L' : CodeSet) → ((c : ℕ) → K c ≡ K' c) → ((c : ℕ) → L c ≡ L' c) → (c : ℕ) → either K L c ≡ either K' L' c
-either_cong K K' L L' h g c = ap (λ x. x || L c) (h c) ∙ ap (λ x. K' c || x) (g c)
-
 up_to_cong : (K K' : CodeSet) → ((c : ℕ) → K c ≡ K' c) → (c : ℕ) → up_to K c ≡ up_to K' c
 up_to_cong K K' h zero = h 0
 up_to_cong K K' h (suc c) = ap (λ x. x || up_to K c) (h (suc c)) ∙ ap (λ x. K' (suc c) || x) (up_to_cong K K' h c)
-
-pub without_cong : (K K' : CodeSet) → ((c : ℕ) → K c ≡ K' c) → (c : ℕ) → without_end K c ≡ without_end K' c
-without_cong K K' h zero = refl
-without_cong K K' h (suc c) = h (suc c)
-
-pub in_turn_cong : (K K' L L' : CodeSet) → ((c : ℕ) → K c ≡ K' c) → ((c : ℕ) → L c ≡ L' c) → (c : ℕ) → in_turn K L c ≡ in_turn K' L' c
-in_turn_cong K K' L L' h g c =
-    ap (λ x. x || (K 0 && L c)) (without_cong K K' h c) ∙ ap (λ x. without_end K' c || (x && L c)) (h 0) ∙ ap (λ x. without_end K' c || (K' 0 && x)) (g c)
 
 pub greater_cong : (K K' L L' : CodeSet) → ((c : ℕ) → K c ≡ K' c) → ((c : ℕ) → L c ≡ L' c) → (c : ℕ) → greater_of K L c ≡ greater_of K' L' c
 greater_cong K K' L L' h g c =
@@ -114,11 +67,6 @@ greater_cong K K' L L' h g c =
     ∙ ap (λ x. (K' c && x) || (up_to K c && L c)) (up_to_cong L L' g c)
     ∙ ap (λ x. (K' c && up_to L' c) || (x && L c)) (up_to_cong K K' h c)
     ∙ ap (λ x. (K' c && up_to L' c) || (up_to K' c && x)) (g c)
-
-pub lowered_cong : (K K' : CodeSet) → ((c : ℕ) → K c ≡ K' c) → (c : ℕ) → lowered K c ≡ lowered K' c
-lowered_cong K K' h zero = ap (λ x. x || K 2) (h 0) ∙ ap (λ x. K' 0 || x) (h 2)
-lowered_cong K K' h (suc zero) = h 1
-lowered_cong K K' h (suc (suc c)) = h (suc (suc (suc c)))
 
 -- some code of the set is below c
 abbrev pub below : CodeSet → ℕ → Bool

@@ -1,4 +1,4 @@
-use Rattle.std.proofs.Common.{◌≡◌, ap, sym, subst, ◌∙◌, true, false, List, replicate, get_or, set}
+use Rattle.std.proofs.Common.{◌≡◌, ap, sym, subst, ◌∙◌, true, false, replicate, get_or, set}
 use Rattle.hh_term.proofs.FlagSets.{only_set}
 use Rattle.hh_term.specs.Codes.{only}
 use Rattle.hh_term.proofs.codes.put_only.Goals as goal
