@@ -6,5 +6,3 @@ pub mod laws;
 pub mod mark;
 pub mod program;
 pub mod term;
-#[cfg(test)]
-mod tests;
