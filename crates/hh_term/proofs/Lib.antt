@@ -10,3 +10,4 @@ pub mod StaticCodes
 pub mod FirstStatements
 pub mod FirstPrograms
 pub mod FlagSets
+pub mod ExamplePrograms
