@@ -9,3 +9,5 @@ pub mod Stepping
 pub mod StaticCodes
 pub mod FirstStatements
 pub mod FirstPrograms
+pub mod FlagSets
+pub mod ExamplePrograms

@@ -5,6 +5,7 @@ pub mod Views
 pub mod Assembled
 pub mod Viewed
 pub mod Codes
+pub mod Flags
 pub mod MustCan
 pub mod Touches
 pub mod Step

@@ -1,6 +1,7 @@
 //! Kernel programs, where control rests in them, and what a reaction of one is.
 #![tactic(auto)]
 
+pub mod codes;
 pub mod laws;
 pub mod mark;
 pub mod program;

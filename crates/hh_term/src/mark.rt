@@ -18,6 +18,29 @@ pub struct AsyncMark {
 }
 
 impl AsyncMark {
+    ghost use Rattle.hh_term.specs.Entering.{ends_with_last, async_with_item, Enters};
+
+    fn ends_with_last(&self) -> bool
+        ensures { result ≡ ends_with_last self.now.queue }
+    {
+        match self.queue.as_slice().last() {
+            Some(item) => item.last,
+            None => false,
+        }
+    }
+
+    fn enter(&mut self, id: u64, item: Item) -> Result<(), MarkEnd>
+        ensures { Enters (async_with_item id item self.old) self.old item result self.new }
+    {
+        if self.id != id || self.ends_with_last() {
+            return Err(MarkEnd::Refused(item));
+        }
+        match self.queue.try_push(item) {
+            Ok(()) => Ok(()),
+            Err(failed) => Err(MarkEnd::NoMemory(failed.value)),
+        }
+    }
+
     pub fn copy(&self, alloc: Global) -> Result<AsyncMark, NoMemory>
         ensures { IfOk result (λ a. a ≡ self.now) }
     {
@@ -28,6 +51,15 @@ impl AsyncMark {
             suspended: self.suspended,
         })
     }
+}
+
+/// Why an answer did not enter a mark. The item comes back.
+#[derive(Drop)]
+pub enum MarkEnd {
+    /// No async mark holds the id, or the queue of the one that does ends with a last item.
+    Refused(Item),
+    /// Memory ran out.
+    NoMemory(Item),
 }
 
 /// Where control rests: in a pause, in an async, in one part of a statement or in both, or inside a
@@ -45,6 +77,24 @@ pub enum Mark {
 
 impl Mark {
     ghost use Rattle.hh_term.specs.Views.{selection_of};
+    ghost use Rattle.hh_term.specs.Entering.{with_item, Enters};
+
+    fn enter(&mut self, id: u64, item: Item) -> Result<(), MarkEnd>
+        ensures { Enters (with_item id item (selection_of self.old)) (selection_of self.old) item result (selection_of self.new) }
+    {
+        match self {
+            Mark::Pause => Err(MarkEnd::Refused(item)),
+            Mark::Async(a) => a.enter(id, item),
+            Mark::First(m) => m.enter(id, item),
+            Mark::Second(m) => m.enter(id, item),
+            Mark::Both(m, n) => match m.enter(id, item) {
+                Err(MarkEnd::Refused(item)) => n.enter(id, item),
+                ended => ended,
+            },
+            Mark::Inside(m) => m.enter(id, item),
+            Mark::Local(m, _, _) => m.enter(id, item),
+        }
+    }
 
     pub fn copy(&self, alloc: Global) -> Result<Mark, NoMemory>
         ensures { IfOk result (λ m. selection_of m ≡ selection_of self.now) }
@@ -102,6 +152,7 @@ impl Marked {
     ghost use Rattle.hh_term.specs.Marks.{IsControlOf, IdsDiffer};
     ghost use Rattle.hh_term.specs.Selection.{Fresh};
     ghost use Rattle.hh_term.specs.ControlIn.{control_in};
+    ghost use Rattle.hh_term.specs.Entering.{control_with_item, Enters};
 
     /// A program that has not started. Takes no memory.
     pub fn boot(_program: &Program) -> Marked
@@ -133,5 +184,16 @@ impl Marked {
         Ok(Marked {
             control: self.control.copy(alloc)?,
         })
+    }
+
+    /// Puts the item at the end of the queue of the async mark that holds the id, or gives it back and
+    /// leaves all marks as they were.
+    pub fn answer(&mut self, id: u64, item: Item) -> Result<(), MarkEnd>
+        ensures { Enters (control_with_item id item (control_in self.old)) (control_in self.old) item result (control_in self.new) }
+    {
+        match &mut self.control {
+            Control::At(mark) => mark.enter(id, item),
+            Control::Fresh | Control::Ended => Err(MarkEnd::Refused(item)),
+        }
     }
 }
