@@ -9,3 +9,4 @@ pub mod Stepping
 pub mod StaticCodes
 pub mod FirstStatements
 pub mod FirstPrograms
+pub mod Rows

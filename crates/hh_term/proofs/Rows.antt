@@ -1,0 +1,217 @@
+-- Worked programs, expanded by hand, and what each of their reactions gives, by computation from the definitions alone.
+use Rattle.std.proofs.Common.{◌≡◌, refl, ℕ, Bool, true, false, cond, ◌&&◌, Option, Some, None, List, [], ◌∷◌, ◌++◌, length, map}
+use Rattle.std.specs.Prelude.{pos, slice_get}
+use Rattle.hh_base.specs.declared.value.Pos.{Pos}
+use Rattle.hh_base.specs.declared.value.Kind.{Kind}
+use Rattle.hh_base.specs.declared.value.Kind.TheVariants as kind
+use Rattle.hh_base.specs.declared.value.Value.{Value}
+use Rattle.hh_base.specs.declared.value.Value.TheVariants as value
+use Rattle.hh_base.specs.declared.value.CombineWord.{CombineWord}
+use Rattle.hh_base.specs.declared.value.CombineWord.TheVariants.{Plus}
+use Rattle.hh_base.specs.declared.value.FaultKind.TheVariants.{Overflow}
+use Rattle.host_expr.specs.declared.expr.Op.TheVariants.{Add}
+use Rattle.host_expr.specs.declared.expr.Rel.TheVariants.{Eq}
+use Rattle.host_expr.specs.Expression.{Expression, Int, Now, NowVal, PreVal, Neg, Arith, Compare}
+use Rattle.hh_term.specs.declared.program.Dir.{Dir}
+use Rattle.hh_term.specs.declared.program.Dir.TheVariants as dir
+use Rattle.hh_term.specs.declared.program.SignalDecl.{SignalDecl}
+use Rattle.hh_term.specs.Statement.{Statement, Nothing, Pause, Emit, If, Suspend, Seq, Par, Loop, Trap, Exit, Local}
+use Rattle.hh_term.specs.Selection.{Control, Fresh}
+use Rattle.hh_term.specs.Kernel.{Kernel}
+use Rattle.hh_term.specs.Reaction.{Last, Now as SignalNow, Outcome, Undecided, Doubled, Faulted, Completes, reaction, last_of, first_lasts}
+
+-- ---- a run of reactions
+
+-- what a reaction shows: its code and its present outputs with their values, or why it is refused
+data Line : Type 0 where
+  Replies : (code : Option ℕ) (present : List (ℕ × Value)) → Line
+  Refuses : (outcome : Outcome) → Line
+
+abbrev pauses : List (ℕ × Value) → Line
+pauses = Replies (Some 1)
+
+abbrev ends : List (ℕ × Value) → Line
+ends = Replies (Some 0)
+
+abbrev is_over : List (ℕ × Value) → Line
+is_over = Replies None
+
+abbrev emits : Dir → Bool
+emits dir.Output = true
+emits dir.Both = true
+emits _ = false
+
+abbrev is_output : Option SignalDecl → Bool
+is_output (Some d) = emits d.dir
+is_output None = false
+
+abbrev shown : Kernel → List SignalNow → List (ℕ × Value)
+shown K [] = []
+shown K (n ∷ ns) = cond (n.status && is_output (slice_get K.signals n.signal)) ((n.signal, n.val) ∷ shown K ns) (shown K ns)
+
+-- a reaction that completes leaves its control and its interface to the next one, a refused one changes nothing
+abbrev follow : Kernel → Control → List Last → (Control → List Last → List Line) → Outcome → List Line
+follow K c before rest (Completes done) = Replies done.code (shown K done.signals) ∷ rest done.next (map last_of done.signals)
+follow K c before rest refused = Refuses refused ∷ rest c before
+
+abbrev runs_from : Kernel → Control → List Last → List (List (ℕ × Value)) → List Line
+runs_from K c before [] = []
+runs_from K c before (given ∷ later) = follow K c before (λ d after. runs_from K d after later) (reaction K c before given 0)
+
+abbrev runs : Kernel → List (List (ℕ × Value)) → List Line
+runs K inputs = runs_from K Fresh (first_lasts K) inputs
+
+-- ---- programs
+
+abbrev declared : Dir → Kind → Value → Option CombineWord → ℕ → SignalDecl
+declared d k v w p = record { name = Some []; dir = d; kind = k; first = v; combine = w; pos = record { 0 = p } }
+
+abbrev input : ℕ → SignalDecl
+input p = declared dir.Input kind.Pure value.Unit None p
+
+abbrev output : ℕ → SignalDecl
+output p = declared dir.Output kind.Pure value.Unit None p
+
+abbrev number : Option CombineWord → ℕ → SignalDecl
+number w p = declared dir.Output kind.Int (value.Int (pos 0)) w p
+
+abbrev hidden : ℕ → SignalDecl
+hidden p = declared dir.Local kind.Pure value.Unit None p
+
+abbrev program : List SignalDecl → List SignalDecl → Statement → Kernel
+program interface locals p = record { signals = interface ++ locals; interface = length interface; bodies = []; sites = []; statement = p }
+
+abbrev emit : ℕ → Statement
+emit s = Emit s None
+
+abbrev emit_number : ℕ → ℕ → Statement
+emit_number s n = Emit s (Some (Int (pos n)))
+
+abbrev position : ℕ → Pos
+position n = record { 0 = n }
+
+-- a pure signal that is present, and a number
+abbrev on : ℕ → ℕ × Value
+on s = (s, value.Unit)
+
+abbrev is : ℕ → ℕ → ℕ × Value
+is s n = (s, value.Int (pos n))
+
+abbrev halt : Statement
+halt = Loop Pause
+
+abbrev sustain : ℕ → Statement
+sustain s = Loop (Seq (emit s) Pause)
+
+-- from the next reaction on, leaves the trap where the test holds
+abbrev watch : Expression → Statement
+watch d = Loop (Seq Pause (If d (Exit 0) Nothing))
+
+abbrev await : Expression → Statement
+await d = Trap (watch d)
+
+abbrev abort : Expression → Statement → Statement
+abort d p = Trap (Par (Seq (Suspend d p) (Exit 0)) (watch d))
+
+abbrev weak_abort : Expression → Statement → Statement
+weak_abort d p = Trap (Par (Seq p (Exit 0)) (watch d))
+
+-- ---- the first language
+
+-- module M() {}
+empty_module : runs (program [] [] Nothing) ([] ∷ [] ∷ []) ≡ ends [] ∷ is_over [] ∷ []
+empty_module = refl
+
+-- module M(in A, out O) { pause; if (A.now) { emit O; } }
+pause_then_test : runs (program (input 12 ∷ output 19 ∷ []) [] (Seq Pause (If (Now 0) (emit 1) Nothing))) ([] ∷ (on 0 ∷ []) ∷ (on 0 ∷ []) ∷ []) ≡ pauses [] ∷ ends (on 1 ∷ []) ∷ is_over [] ∷ []
+pause_then_test = refl
+
+-- module M(in A, out P, out Q) { if (A.now) { emit P; } else { emit Q; } pause; emit P; }
+test_then_pause : runs (program (input 12 ∷ output 19 ∷ output 26 ∷ []) [] (Seq (Seq (If (Now 0) (emit 1) (emit 2)) Pause) (emit 1))) ((on 0 ∷ []) ∷ [] ∷ []) ≡ pauses (on 1 ∷ []) ∷ ends (on 1 ∷ []) ∷ []
+test_then_pause = refl
+
+-- ---- traps, parallels and loops
+
+-- module ABRO(in A, in B, in R, out O) { do { fork { await (A.now); } par { await (B.now); } emit O; } every (R.now); }
+abbrev abro : Kernel
+abro = program (input 15 ∷ input 21 ∷ input 27 ∷ output 34 ∷ []) [] (Loop (abort (Now 2) (Seq (Seq (Par (await (Now 0)) (await (Now 1))) (emit 3)) halt)))
+
+-- O comes with the last of A and B, once, and anew after R
+abro_runs : runs abro ([] ∷ (on 0 ∷ []) ∷ (on 1 ∷ []) ∷ (on 0 ∷ on 1 ∷ []) ∷ (on 2 ∷ on 0 ∷ on 1 ∷ []) ∷ (on 0 ∷ on 1 ∷ []) ∷ []) ≡ pauses [] ∷ pauses [] ∷ pauses (on 3 ∷ []) ∷ pauses [] ∷ pauses [] ∷ pauses (on 3 ∷ []) ∷ []
+abro_runs = refl
+
+-- module M(out P, out Q) { loop { signal S { if (S.now) { emit P; } else { emit Q; } pause; emit S; } } }
+-- Reincarnation: the S that is emitted is not the S that is tested.
+reincarnation : runs (program (output 13 ∷ output 20 ∷ []) (hidden 39 ∷ []) (Loop (Local 2 (Seq (Seq (If (Now 2) (emit 0) (emit 1)) Pause) (emit 2))))) ([] ∷ [] ∷ []) ≡ pauses (on 1 ∷ []) ∷ pauses (on 1 ∷ []) ∷ []
+reincarnation = refl
+
+-- module M(in A, out N: int combine plus) { loop { fork { trap T { loop { emit N(1); if (A.now) { break T; } pause; } } } par { pause; } } }
+-- With A the inner loop emits at its resumption and leaves, the outer body ends and starts, and emits again.
+levels : runs (program (input 12 ∷ number (Some Plus) 19 ∷ []) [] (Loop (Par (Trap (Loop (Seq (Seq (emit_number 1 1) (If (Now 0) (Exit 0) Nothing)) Pause))) Pause))) ([] ∷ (on 0 ∷ []) ∷ [] ∷ [] ∷ []) ≡ pauses (is 1 1 ∷ []) ∷ pauses (is 1 2 ∷ []) ∷ pauses (is 1 1 ∷ []) ∷ pauses (is 1 1 ∷ []) ∷ []
+levels = refl
+
+-- module M(in A, out X) { abort (A.now) { sustain X; } }
+strong_abort : runs (program (input 12 ∷ output 19 ∷ []) [] (abort (Now 0) (sustain 1))) ([] ∷ (on 0 ∷ []) ∷ []) ≡ pauses (on 1 ∷ []) ∷ ends [] ∷ []
+strong_abort = refl
+
+-- module M(in A, out X) { weakabort (A.now) { sustain X; } }
+weak_abort_emits : runs (program (input 12 ∷ output 19 ∷ []) [] (weak_abort (Now 0) (sustain 1))) ([] ∷ (on 0 ∷ []) ∷ []) ≡ pauses (on 1 ∷ []) ∷ ends (on 1 ∷ []) ∷ []
+weak_abort_emits = refl
+
+-- ---- causality
+
+-- module M(out S) { if (S.now) {} else { emit S; } }
+no_solution : runs (program (output 13 ∷ []) [] (If (Now 0) Nothing (emit 0))) ([] ∷ []) ≡ Refuses (Undecided (0 ∷ [])) ∷ []
+no_solution = refl
+
+-- module M() { signal S { if (S.now) {} else { emit S; } } }
+no_solution_local : runs (program [] (hidden 20 ∷ []) (Local 0 (If (Now 0) Nothing (emit 0)))) ([] ∷ []) ≡ Refuses (Undecided []) ∷ []
+no_solution_local = refl
+
+-- module M(out S) { if (S.now) { emit S; } }
+two_solutions : runs (program (output 13 ∷ []) [] (If (Now 0) (emit 0) Nothing)) ([] ∷ []) ≡ Refuses (Undecided (0 ∷ [])) ∷ []
+two_solutions = refl
+
+-- module M(out X, out Y) { fork { if (Y.now) { emit X; } } par { emit Y; } }
+parallel_decides : runs (program (output 13 ∷ output 20 ∷ []) [] (Par (If (Now 1) (emit 0) Nothing) (emit 1))) ([] ∷ []) ≡ ends (on 0 ∷ on 1 ∷ []) ∷ []
+parallel_decides = refl
+
+-- module M(out X, out Y) { if (Y.now) { emit X; } emit Y; }
+sequence_waits : runs (program (output 13 ∷ output 20 ∷ []) [] (Seq (If (Now 1) (emit 0) Nothing) (emit 1))) ([] ∷ []) ≡ Refuses (Undecided (0 ∷ 1 ∷ [])) ∷ []
+sequence_waits = refl
+
+-- module M(out X) { if (X.now) { signal T { emit T; if (T.now) {} else { emit X; } } } }
+-- T may not be set present: its statement is not known to be executed.
+not_known_to_run : runs (program (output 13 ∷ []) (hidden 39 ∷ []) (If (Now 0) (Local 1 (Seq (emit 1) (If (Now 1) Nothing (emit 0)))) Nothing)) ([] ∷ []) ≡ Refuses (Undecided (0 ∷ [])) ∷ []
+not_known_to_run = refl
+
+-- ---- values
+
+-- module M(out V: int combine plus) { emit V(1); emit V(2); emit V(3); }
+sum_of_emissions : runs (program (number (Some Plus) 13 ∷ []) [] (Seq (Seq (emit_number 0 1) (emit_number 0 2)) (emit_number 0 3))) ([] ∷ []) ≡ ends (is 0 6 ∷ []) ∷ []
+sum_of_emissions = refl
+
+-- the same with the emissions 9223372036854775807 and 1
+sum_overflows : runs (program (number (Some Plus) 13 ∷ []) [] (Seq (emit_number 0 9223372036854775807) (emit_number 0 1))) ([] ∷ []) ≡ Refuses (Faulted (position 13) Overflow) ∷ []
+sum_overflows = refl
+
+-- the same with the emissions 9223372036854775807, 1 and -1: it is the whole sum that counts
+sum_comes_back : runs (program (number (Some Plus) 13 ∷ []) [] (Seq (Seq (emit_number 0 9223372036854775807) (emit_number 0 1)) (Emit 0 (Some (Neg (position 83) (Int (pos 1))))))) ([] ∷ []) ≡ ends (is 0 9223372036854775807 ∷ []) ∷ []
+sum_comes_back = refl
+
+-- module M(out V: int) { emit V(1); emit V(2); }
+several_without_a_word : runs (program (number None 13 ∷ []) [] (Seq (emit_number 0 1) (emit_number 0 2))) ([] ∷ [] ∷ []) ≡ Refuses (Doubled 0) ∷ Refuses (Doubled 0) ∷ []
+several_without_a_word = refl
+
+-- module M(out V: int) { emit V(V.nowval + 1); }
+value_of_itself : runs (program (number None 13 ∷ []) [] (Emit 0 (Some (Arith (position 39) Add (NowVal 0) (Int (pos 1)))))) ([] ∷ []) ≡ Refuses (Undecided (0 ∷ [])) ∷ []
+value_of_itself = refl
+
+-- module M(out V: int combine plus) { emit V(1); if (V.nowval == 1) { emit V(2); } }
+-- The value is known only when every emission is decided.
+value_waits : runs (program (number (Some Plus) 13 ∷ []) [] (Seq (emit_number 0 1) (If (Compare Eq (NowVal 0) (Int (pos 1))) (emit_number 0 2) Nothing))) ([] ∷ []) ≡ Refuses (Undecided (0 ∷ [])) ∷ []
+value_waits = refl
+
+-- module M(out V: int) { loop { emit V(V.preval + 1); pause; } }
+previous_value : runs (program (number None 13 ∷ []) [] (Loop (Seq (Emit 0 (Some (Arith (position 46) Add (PreVal 0) (Int (pos 1))))) Pause))) ([] ∷ [] ∷ [] ∷ []) ≡ pauses (is 0 1 ∷ []) ∷ pauses (is 0 2 ∷ []) ∷ pauses (is 0 3 ∷ []) ∷ []
+previous_value = refl
