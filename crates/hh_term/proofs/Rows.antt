@@ -185,6 +185,11 @@ sequence_waits = refl
 not_known_to_run : runs (program (output 13 ∷ []) (hidden 39 ∷ []) (If (Now 0) (Local 1 (Seq (emit 1) (If (Now 1) Nothing (emit 0)))) Nothing)) ([] ∷ []) ≡ Refuses (Undecided (0 ∷ [])) ∷ []
 not_known_to_run = refl
 
+-- module M(out X) { suspend (X.now) { pause; signal T { emit T; if (T.now) {} else { emit X; } } } }
+-- Nor where a guard is unknown.
+not_known_to_resume : runs (program (output 13 ∷ []) (hidden 52 ∷ []) (Suspend (Now 0) (Seq Pause (Local 1 (Seq (emit 1) (If (Now 1) Nothing (emit 0))))))) ([] ∷ [] ∷ []) ≡ pauses [] ∷ Refuses (Undecided (0 ∷ [])) ∷ []
+not_known_to_resume = refl
+
 -- ---- values
 
 -- module M(out V: int combine plus) { emit V(1); emit V(2); emit V(3); }
