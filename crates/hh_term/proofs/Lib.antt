@@ -5,6 +5,7 @@ pub mod Rounds
 pub mod WithinCan
 pub mod MustCanLaws
 pub mod Standstill
+pub mod Interface
 pub mod Stepping
 pub mod StaticCodes
 pub mod FirstStatements
