@@ -10,4 +10,6 @@ pub mod Stepping
 pub mod StaticCodes
 pub mod FirstStatements
 pub mod FirstPrograms
+pub mod Runs
 pub mod Rows
+pub mod AsyncRows

@@ -1,120 +1,15 @@
 -- Worked programs, expanded by hand, and what each of their reactions gives, by computation from the definitions alone.
-use Rattle.std.proofs.Common.{◌≡◌, refl, ℕ, Bool, true, false, cond, ◌&&◌, Option, Some, None, List, [], ◌∷◌, ◌++◌, length, map}
-use Rattle.std.specs.Prelude.{pos, slice_get}
-use Rattle.hh_base.specs.declared.value.Pos.{Pos}
-use Rattle.hh_base.specs.declared.value.Kind.{Kind}
-use Rattle.hh_base.specs.declared.value.Kind.TheVariants as kind
-use Rattle.hh_base.specs.declared.value.Value.{Value}
-use Rattle.hh_base.specs.declared.value.Value.TheVariants as value
-use Rattle.hh_base.specs.declared.value.CombineWord.{CombineWord}
+use Rattle.std.proofs.Common.{◌≡◌, refl, Some, None, [], ◌∷◌}
+use Rattle.std.specs.Prelude.{pos}
 use Rattle.hh_base.specs.declared.value.CombineWord.TheVariants.{Plus}
 use Rattle.hh_base.specs.declared.value.FaultKind.TheVariants.{Overflow}
 use Rattle.host_expr.specs.declared.expr.Op.TheVariants.{Add}
 use Rattle.host_expr.specs.declared.expr.Rel.TheVariants.{Eq}
-use Rattle.host_expr.specs.Expression.{Expression, Int, Now, NowVal, PreVal, Neg, Arith, Compare}
-use Rattle.hh_term.specs.declared.program.Dir.{Dir}
-use Rattle.hh_term.specs.declared.program.Dir.TheVariants as dir
-use Rattle.hh_term.specs.declared.program.SignalDecl.{SignalDecl}
-use Rattle.hh_term.specs.Statement.{Statement, Nothing, Pause, Emit, If, Suspend, Seq, Par, Loop, Trap, Exit, Local}
-use Rattle.hh_term.specs.Selection.{Control, Fresh}
+use Rattle.host_expr.specs.Expression.{Int, Now, NowVal, PreVal, Neg, Arith, Compare}
+use Rattle.hh_term.specs.Statement.{Nothing, Pause, Emit, If, Suspend, Seq, Par, Loop, Trap, Exit, Local}
 use Rattle.hh_term.specs.Kernel.{Kernel}
-use Rattle.hh_term.specs.Reaction.{Last, Now as SignalNow, Outcome, Undecided, Doubled, Faulted, Completes, reaction, last_of, first_lasts}
-
--- ---- a run of reactions
-
--- what a reaction shows: its code and its present outputs with their values, or why it is refused
-data Line : Type 0 where
-  Replies : (code : Option ℕ) (present : List (ℕ × Value)) → Line
-  Refuses : (outcome : Outcome) → Line
-
-abbrev pauses : List (ℕ × Value) → Line
-pauses = Replies (Some 1)
-
-abbrev ends : List (ℕ × Value) → Line
-ends = Replies (Some 0)
-
-abbrev is_over : List (ℕ × Value) → Line
-is_over = Replies None
-
-abbrev emits : Dir → Bool
-emits dir.Output = true
-emits dir.Both = true
-emits _ = false
-
-abbrev is_output : Option SignalDecl → Bool
-is_output (Some d) = emits d.dir
-is_output None = false
-
-abbrev shown : Kernel → List SignalNow → List (ℕ × Value)
-shown K [] = []
-shown K (n ∷ ns) = cond (n.status && is_output (slice_get K.signals n.signal)) ((n.signal, n.val) ∷ shown K ns) (shown K ns)
-
--- a reaction that completes leaves its control and its interface to the next one, a refused one changes nothing
-abbrev follow : Kernel → Control → List Last → (Control → List Last → List Line) → Outcome → List Line
-follow K c before rest (Completes done) = Replies done.code (shown K done.signals) ∷ rest done.next (map last_of done.signals)
-follow K c before rest refused = Refuses refused ∷ rest c before
-
-abbrev runs_from : Kernel → Control → List Last → List (List (ℕ × Value)) → List Line
-runs_from K c before [] = []
-runs_from K c before (given ∷ later) = follow K c before (λ d after. runs_from K d after later) (reaction K c before given 0)
-
-abbrev runs : Kernel → List (List (ℕ × Value)) → List Line
-runs K inputs = runs_from K Fresh (first_lasts K) inputs
-
--- ---- programs
-
-abbrev declared : Dir → Kind → Value → Option CombineWord → ℕ → SignalDecl
-declared d k v w p = record { name = Some []; dir = d; kind = k; first = v; combine = w; pos = record { 0 = p } }
-
-abbrev input : ℕ → SignalDecl
-input p = declared dir.Input kind.Pure value.Unit None p
-
-abbrev output : ℕ → SignalDecl
-output p = declared dir.Output kind.Pure value.Unit None p
-
-abbrev number : Option CombineWord → ℕ → SignalDecl
-number w p = declared dir.Output kind.Int (value.Int (pos 0)) w p
-
-abbrev hidden : ℕ → SignalDecl
-hidden p = declared dir.Local kind.Pure value.Unit None p
-
-abbrev program : List SignalDecl → List SignalDecl → Statement → Kernel
-program interface locals p = record { signals = interface ++ locals; interface = length interface; bodies = []; sites = []; statement = p }
-
-abbrev emit : ℕ → Statement
-emit s = Emit s None
-
-abbrev emit_number : ℕ → ℕ → Statement
-emit_number s n = Emit s (Some (Int (pos n)))
-
-abbrev position : ℕ → Pos
-position n = record { 0 = n }
-
--- a pure signal that is present, and a number
-abbrev on : ℕ → ℕ × Value
-on s = (s, value.Unit)
-
-abbrev is : ℕ → ℕ → ℕ × Value
-is s n = (s, value.Int (pos n))
-
-abbrev halt : Statement
-halt = Loop Pause
-
-abbrev sustain : ℕ → Statement
-sustain s = Loop (Seq (emit s) Pause)
-
--- from the next reaction on, leaves the trap where the test holds
-abbrev watch : Expression → Statement
-watch d = Loop (Seq Pause (If d (Exit 0) Nothing))
-
-abbrev await : Expression → Statement
-await d = Trap (watch d)
-
-abbrev abort : Expression → Statement → Statement
-abort d p = Trap (Par (Seq (Suspend d p) (Exit 0)) (watch d))
-
-abbrev weak_abort : Expression → Statement → Statement
-weak_abort d p = Trap (Par (Seq p (Exit 0)) (watch d))
+use Rattle.hh_term.specs.Reaction.{Undecided, Doubled, Faulted}
+use Rattle.hh_term.proofs.Runs.{Refuses, pauses, ends, is_over, runs, input, output, number, hidden, program, emit, emit_number, position, on, is, halt, sustain, await, abort, weak_abort}
 
 -- ---- the first language
 
