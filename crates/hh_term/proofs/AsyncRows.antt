@@ -7,9 +7,11 @@ use Rattle.hh_base.specs.declared.value.Value.TheVariants as value
 use Rattle.hh_base.specs.declared.value.FaultKind.TheVariants.{Divide, Overflow}
 use Rattle.hh_base.specs.declared.item.Item.{Item}
 use Rattle.host_expr.specs.declared.expr.Op.TheVariants.{Add, Div}
-use Rattle.host_expr.specs.Expression.{Expression, Int, Now, Pre, Arg, Arith}
+use Rattle.host_expr.specs.declared.expr.Rel.TheVariants.{Eq}
+use Rattle.hh_term.specs.declared.program.Dir.TheVariants as dir
+use Rattle.host_expr.specs.Expression.{Expression, Int, Now, Pre, PreVal, Arg, Arith, Compare}
 use Rattle.hh_term.specs.Statement.{Nothing, Pause, Emit, If, Suspend, Seq, Par, Loop, Trap, Exit, Local, Async}
-use Rattle.hh_term.specs.Selection.{Selection, AtPause, AtAsync, First, Both, Inside, Control, Fresh, At}
+use Rattle.hh_term.specs.Selection.{Selection, AtPause, AtAsync, First, Second, Both, Inside, Control, Fresh, At}
 use Rattle.hh_term.specs.Kernel.{Kernel, AsyncSite, Body}
 use Rattle.hh_term.specs.Touches.{Touch}
 use Rattle.hh_term.specs.Reaction.{Outcome, Undecided, Doubled, Faulted, Completes, reaction, first_lasts}
@@ -39,8 +41,11 @@ think = record { name = []; params = kind.Int ∷ []; answer = kind.Int; expr = 
 abbrev call : ℕ → Expression → AsyncSite
 call v e = record { body = 0; signal = Some v; args = e ∷ []; kill = None; suspend = None; resume = None }
 
+abbrev with_sites : List AsyncSite → Kernel → Kernel
+with_sites sites K = record K { bodies = think ∷ []; sites = sites }
+
 abbrev with_site : AsyncSite → Kernel → Kernel
-with_site a K = record K { bodies = think ∷ []; sites = a ∷ [] }
+with_site a = with_sites (a ∷ [])
 
 -- its instance with id n, this queue and this flag
 abbrev instance : ℕ → List Item → Bool → Selection
@@ -52,6 +57,16 @@ part n = record { value = value.Int (pos n); last = false }
 abbrev last : ℕ → Item
 last n = record { value = value.Int (pos n); last = true }
 
+-- the instance with this id of a site: started and running on, ended, held and running on
+abbrev new_touch : ℕ → ℕ → Touch
+new_touch n id = record { site = n; id = id; started = Some (value.Int (pos 4) ∷ []); used = false; ended = false; held = false; resumed = false; runs_after = true }
+
+abbrev end_touch : ℕ → ℕ → Touch
+end_touch n id = record { site = n; id = id; started = None; used = false; ended = true; held = false; resumed = true; runs_after = false }
+
+abbrev hold_touch : ℕ → ℕ → Touch
+hold_touch n id = record { site = n; id = id; started = None; used = false; ended = false; held = true; resumed = false; runs_after = true }
+
 -- ---- one instance, its parts and its end
 
 -- module M(out V: int) { async (V) call think(4); }
@@ -61,7 +76,7 @@ one_call = with_site (call 0 (Int (pos 4))) (program (number None 50 ∷ []) [] 
 starts : control_left (first_reaction one_call []) ≡ Some (At (instance 1 [] false))
 starts = refl
 
-is_started : touches_left (first_reaction one_call []) ≡ record { site = 0; id = 1; started = Some (value.Int (pos 4) ∷ []); used = false; ended = false; held = false; resumed = false; runs_after = true } ∷ []
+is_started : touches_left (first_reaction one_call []) ≡ new_touch 0 1 ∷ []
 is_started = refl
 
 -- one answer each reaction, the last one ends it
@@ -74,11 +89,23 @@ waits = refl
 uses_a_part : control_left (next_reaction one_call (instance 1 (part 5 ∷ last 6 ∷ []) true) []) ≡ Some (At (instance 1 (last 6 ∷ []) false))
 uses_a_part = refl
 
-is_used : touches_left (next_reaction one_call (instance 1 (part 5 ∷ last 6 ∷ []) true) []) ≡ record { site = 0; id = 1; started = None; used = true; ended = false; held = false; resumed = true; runs_after = true } ∷ []
+is_used : touches_left (next_reaction one_call (instance 1 (part 5 ∷ last 6 ∷ []) true) []) ≡ record (end_touch 0 1) { used = true; ended = false; runs_after = true } ∷ []
 is_used = refl
 
-is_ended : touches_left (next_reaction one_call (instance 1 (last 5 ∷ []) false) []) ≡ record { site = 0; id = 1; started = None; used = false; ended = true; held = false; resumed = true; runs_after = false } ∷ []
+is_ended : touches_left (next_reaction one_call (instance 1 (last 5 ∷ []) false) []) ≡ end_touch 0 1 ∷ []
 is_ended = refl
+
+-- ---- two instances
+
+-- module M(out V: int, out W: int) { fork { async (V) call think(4); } par { async (W) call think(4); } }
+-- Ids go in the order of the sites.
+two_calls : touches_left (first_reaction (with_sites (call 0 (Int (pos 4)) ∷ call 1 (Int (pos 4)) ∷ []) (program (number None 50 ∷ number None 57 ∷ []) [] (Par (Async 0) (Async 1)))) []) ≡ new_touch 0 1 ∷ new_touch 1 2 ∷ []
+two_calls = refl
+
+-- module M(out V: int, out W: int) { loop { async (V) call think(4); async (W) call think(4); } }
+-- The second ends and the first starts anew: touches stand in the order of the sites.
+one_after_the_other : touches_left (next_reaction (with_sites (call 0 (Int (pos 4)) ∷ call 1 (Int (pos 4)) ∷ []) (program (number None 50 ∷ number None 57 ∷ []) [] (Loop (Seq (Async 0) (Async 1))))) (Inside (Second (instance 1 (last 7 ∷ []) false))) []) ≡ new_touch 0 2 ∷ end_touch 1 1 ∷ []
+one_after_the_other = refl
 
 -- ---- preemption
 
@@ -90,7 +117,7 @@ suspended_call = with_site (call 1 (Int (pos 4))) (program (input 47 ∷ number 
 is_held : control_left (next_reaction suspended_call (Inside (instance 1 (last 5 ∷ []) false)) (on 0 ∷ [])) ≡ Some (At (Inside (instance 1 (last 5 ∷ []) true)))
 is_held = refl
 
-held_touch : touches_left (next_reaction suspended_call (Inside (instance 1 [] false)) (on 0 ∷ [])) ≡ record { site = 0; id = 1; started = None; used = false; ended = false; held = true; resumed = false; runs_after = true } ∷ []
+held_touch : touches_left (next_reaction suspended_call (Inside (instance 1 [] false)) (on 0 ∷ [])) ≡ hold_touch 0 1 ∷ []
 held_touch = refl
 
 -- module M(in R, out V: int) { do { async (V) call think(4); } every (R.now); }
@@ -104,12 +131,12 @@ running n = Inside (Inside (Both (First (Inside (First (instance n [] false)))) 
 restarts : control_left (next_reaction repeated_call (running 1) (on 0 ∷ [])) ≡ Some (At (running 2))
 restarts = refl
 
-restart_touches : touches_left (next_reaction repeated_call (running 1) (on 0 ∷ [])) ≡ record { site = 0; id = 1; started = None; used = false; ended = false; held = true; resumed = false; runs_after = false } ∷ record { site = 0; id = 2; started = Some (value.Int (pos 4) ∷ []); used = false; ended = false; held = false; resumed = false; runs_after = true } ∷ []
+restart_touches : touches_left (next_reaction repeated_call (running 1) (on 0 ∷ [])) ≡ record (hold_touch 0 1) { runs_after = false } ∷ new_touch 0 2 ∷ []
 restart_touches = refl
 
 -- module M(out V: int) { trap T { fork { async (V) call think(4); } par { break T; } } }
 -- An instance that is started and killed in one reaction uses no id.
-started_and_killed : touches_left (first_reaction (with_site (call 0 (Int (pos 4))) (program (number None 50 ∷ []) [] (Trap (Par (Async 0) (Exit 0))))) []) ≡ record { site = 0; id = 0; started = Some (value.Int (pos 4) ∷ []); used = false; ended = false; held = false; resumed = false; runs_after = false } ∷ []
+started_and_killed : touches_left (first_reaction (with_site (call 0 (Int (pos 4))) (program (number None 50 ∷ []) [] (Trap (Par (Async 0) (Exit 0))))) []) ≡ record (new_touch 0 0) { runs_after = false } ∷ []
 started_and_killed = refl
 
 -- The fault of its argument counts all the same.
@@ -126,7 +153,31 @@ frozen = refl
 begins_anew : runs (program (output 13 ∷ []) (hidden 32 ∷ []) (Loop (Local 1 (Seq (Seq (If (Pre 1) (emit 0) Nothing) (emit 1)) Pause)))) ([] ∷ [] ∷ []) ≡ pauses [] ∷ pauses [] ∷ []
 begins_anew = refl
 
+-- module M(out X) { signal S: int { emit S(4); pause; if (S.preval == 4) { emit X; } } }
+-- Its mark keeps the value of its last reaction.
+keeps_its_value : runs (program (output 13 ∷ []) (record (number None 26) { dir = dir.Local } ∷ []) (Local 1 (Seq (Seq (emit_number 1 4) Pause) (If (Compare Eq (PreVal 1) (Int (pos 4))) (emit 0) Nothing)))) ([] ∷ [] ∷ []) ≡ pauses [] ∷ ends (on 0 ∷ []) ∷ []
+keeps_its_value = refl
+
+-- module M() { trap T { fork { pause; } par { break T; } } }
+-- What a trap leaves is over: no mark of the other branch stays.
+left_for_good : runs (program [] [] (Trap (Par Pause (Exit 0)))) ([] ∷ [] ∷ []) ≡ ends [] ∷ is_over [] ∷ []
+left_for_good = refl
+
 -- ---- refusals
+
+-- module M(inout V: int) { emit V(1); }
+-- A given input is one more emission.
+given_and_emitted : runs (program (record (number None 15) { dir = dir.Both } ∷ []) [] (emit_number 0 1)) ((is 0 2 ∷ []) ∷ [] ∷ []) ≡ Refuses (Doubled 0) ∷ ends (is 0 1 ∷ []) ∷ []
+given_and_emitted = refl
+
+-- module M(out X) { if (1 / 0 == 1) {} else { emit X; } }
+fault_of_a_test : runs (program (output 13 ∷ []) [] (If (Compare Eq (Arith (position 24) Div (Int (pos 1)) (Int (pos 0))) (Int (pos 1))) Nothing (emit 0))) ([] ∷ []) ≡ Refuses (Faulted (position 24) Divide) ∷ []
+fault_of_a_test = refl
+
+-- module M() { suspend (1 / 0 == 1) { pause; } }
+-- A guard is met at the resumption alone.
+fault_of_a_guard : runs (program [] [] (Suspend (Compare Eq (Arith (position 24) Div (Int (pos 1)) (Int (pos 0))) (Int (pos 1))) Pause)) ([] ∷ [] ∷ []) ≡ pauses [] ∷ Refuses (Faulted (position 24) Divide) ∷ []
+fault_of_a_guard = refl
 
 -- module M(in A, out V: int) { loop { if (A.now) { emit V(1 / 0); } pause; } }
 -- A refused reaction changes nothing.
