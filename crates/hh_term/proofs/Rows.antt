@@ -1,14 +1,15 @@
 -- Worked programs, expanded by hand, and what each of their reactions gives, by computation from the definitions alone.
-use Rattle.std.proofs.Common.{◌≡◌, refl, Some, None, [], ◌∷◌}
+use Rattle.std.proofs.Common.{◌≡◌, refl, true, false, Some, None, [], ◌∷◌}
 use Rattle.std.specs.Prelude.{pos}
 use Rattle.hh_base.specs.declared.value.CombineWord.TheVariants.{Plus}
 use Rattle.hh_base.specs.declared.value.FaultKind.TheVariants.{Overflow}
 use Rattle.host_expr.specs.declared.expr.Op.TheVariants.{Add}
 use Rattle.host_expr.specs.declared.expr.Rel.TheVariants.{Eq}
 use Rattle.host_expr.specs.Expression.{Int, Now, NowVal, PreVal, Neg, Arith, Compare}
-use Rattle.hh_term.specs.Statement.{Nothing, Pause, Emit, If, Suspend, Seq, Par, Loop, Trap, Exit, Local}
+use Rattle.hh_term.specs.Statement.{Nothing, Pause, Emit, If, Suspend, Seq, Par, Loop, Trap, Exit, Local, Async}
 use Rattle.hh_term.specs.Kernel.{Kernel}
 use Rattle.hh_term.specs.Reaction.{Undecided, Doubled, Faulted}
+use Rattle.hh_term.specs.Codes.{static_codes}
 use Rattle.hh_term.proofs.Runs.{Refuses, pauses, ends, is_over, runs, input, output, number, hidden, program, emit, emit_number, position, on, is, halt, sustain, await, abort, weak_abort}
 
 -- ---- the first language
@@ -103,6 +104,11 @@ sum_comes_back = refl
 several_without_a_word : runs (program (number None 13 ∷ []) [] (Seq (emit_number 0 1) (emit_number 0 2))) ([] ∷ [] ∷ []) ≡ Refuses (Doubled 0) ∷ Refuses (Doubled 0) ∷ []
 several_without_a_word = refl
 
+-- module M(out V: int combine plus) { emit V(1); if (V.now) { emit V(2); } }
+-- The first round decides the status, the second the value.
+second_round : runs (program (number (Some Plus) 13 ∷ []) [] (Seq (emit_number 0 1) (If (Now 0) (emit_number 0 2) Nothing))) ([] ∷ []) ≡ ends (is 0 3 ∷ []) ∷ []
+second_round = refl
+
 -- module M(out V: int) { emit V(V.nowval + 1); }
 value_of_itself : runs (program (number None 13 ∷ []) [] (Emit 0 (Some (Arith (position 39) Add (NowVal 0) (Int (pos 1)))))) ([] ∷ []) ≡ Refuses (Undecided (0 ∷ [])) ∷ []
 value_of_itself = refl
@@ -115,3 +121,32 @@ value_waits = refl
 -- module M(out V: int) { loop { emit V(V.preval + 1); pause; } }
 previous_value : runs (program (number None 13 ∷ []) [] (Loop (Seq (Emit 0 (Some (Arith (position 46) Add (PreVal 0) (Int (pos 1))))) Pause))) ([] ∷ [] ∷ [] ∷ []) ≡ pauses (is 0 1 ∷ []) ∷ pauses (is 0 2 ∷ []) ∷ pauses (is 0 3 ∷ []) ∷ []
 previous_value = refl
+
+-- module M(out V: int, out X) { emit V(4); pause; if (V.nowval == 4) { emit X; } }
+-- Without an emission a signal keeps its value.
+keeps_its_value : runs (program (number None 13 ∷ output 25 ∷ []) [] (Seq (Seq (emit_number 0 4) Pause) (If (Compare Eq (NowVal 0) (Int (pos 4))) (emit 1) Nothing))) ([] ∷ [] ∷ []) ≡ pauses (is 0 4 ∷ []) ∷ ends (on 1 ∷ []) ∷ []
+keeps_its_value = refl
+
+-- ---- static codes
+
+-- loop { trap T { break T; pause; } }: the body may end in the reaction in which it starts
+may_end : static_codes (Trap (Seq (Exit 0) Pause)) 0 ≡ true
+may_end = refl
+
+pauses_first : static_codes (Seq Pause (Exit 0)) 0 ≡ false
+pauses_first = refl
+
+a_loop_does_not_end : static_codes (Loop Pause) 0 ≡ false
+a_loop_does_not_end = refl
+
+-- a loop whose body may end does not end itself
+nor_one_that_turns : static_codes (Loop (If (Now 0) Nothing Pause)) 0 ≡ false
+nor_one_that_turns = refl
+
+-- the outer of two traps is left by the inner one's body
+leaves_two_traps : static_codes (Trap (Par Pause (Trap (Exit 1)))) 0 ≡ true
+leaves_two_traps = refl
+
+-- a branch that ends waits for one that pauses
+parallel_waits : static_codes (Par Nothing (Async 0)) 0 ≡ false
+parallel_waits = refl
