@@ -46,6 +46,13 @@ reincarnation = refl
 levels : runs (program (input 12 ∷ number (Some Plus) 19 ∷ []) [] (Loop (Par (Trap (Loop (Seq (Seq (emit_number 1 1) (If (Now 0) (Exit 0) Nothing)) Pause))) Pause))) ([] ∷ (on 0 ∷ []) ∷ [] ∷ [] ∷ []) ≡ pauses (is 1 1 ∷ []) ∷ pauses (is 1 2 ∷ []) ∷ pauses (is 1 1 ∷ []) ∷ pauses (is 1 1 ∷ []) ∷ []
 levels = refl
 
+-- module M(out X) { fork { pause; emit X; } par {} }, and with the branches the other way round
+one_branch_left : runs (program (output 13 ∷ []) [] (Par (Seq Pause (emit 0)) Nothing)) ([] ∷ [] ∷ []) ≡ pauses [] ∷ ends (on 0 ∷ []) ∷ []
+one_branch_left = refl
+
+other_branch_left : runs (program (output 13 ∷ []) [] (Par Nothing (Seq Pause (emit 0)))) ([] ∷ [] ∷ []) ≡ pauses [] ∷ ends (on 0 ∷ []) ∷ []
+other_branch_left = refl
+
 -- module M(in A, out X) { abort (A.now) { sustain X; } }
 strong_abort : runs (program (input 12 ∷ output 19 ∷ []) [] (abort (Now 0) (sustain 1))) ([] ∷ (on 0 ∷ []) ∷ []) ≡ pauses (on 1 ∷ []) ∷ ends [] ∷ []
 strong_abort = refl
