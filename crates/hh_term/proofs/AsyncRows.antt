@@ -80,16 +80,22 @@ is_started : touches_left (first_reaction one_call []) ≡ new_touch 0 1 ∷ []
 is_started = refl
 
 -- one answer each reaction, the last one ends it
-parts_and_end : runs_from one_call (At (instance 1 (part 5 ∷ part 6 ∷ last 7 ∷ []) false)) (first_lasts one_call) ([] ∷ [] ∷ [] ∷ [] ∷ []) ≡ pauses (is 0 5 ∷ []) ∷ pauses (is 0 6 ∷ []) ∷ ends (is 0 7 ∷ []) ∷ is_over [] ∷ []
+parts_and_end :
+    runs_from one_call (At (instance 1 (part 5 ∷ part 6 ∷ last 7 ∷ []) false)) (first_lasts one_call) ([] ∷ [] ∷ [] ∷ [] ∷ [])
+    ≡ pauses (is 0 5 ∷ []) ∷ pauses (is 0 6 ∷ []) ∷ ends (is 0 7 ∷ []) ∷ is_over [] ∷ []
 parts_and_end = refl
 
 waits : control_left (next_reaction one_call (instance 1 [] true) []) ≡ Some (At (instance 1 [] false))
 waits = refl
 
-uses_a_part : control_left (next_reaction one_call (instance 1 (part 5 ∷ last 6 ∷ []) true) []) ≡ Some (At (instance 1 (last 6 ∷ []) false))
+uses_a_part :
+    control_left (next_reaction one_call (instance 1 (part 5 ∷ last 6 ∷ []) true) [])
+    ≡ Some (At (instance 1 (last 6 ∷ []) false))
 uses_a_part = refl
 
-is_used : touches_left (next_reaction one_call (instance 1 (part 5 ∷ last 6 ∷ []) true) []) ≡ record (end_touch 0 1) { used = true; ended = false; runs_after = true } ∷ []
+is_used :
+    touches_left (next_reaction one_call (instance 1 (part 5 ∷ last 6 ∷ []) true) [])
+    ≡ record (end_touch 0 1) { used = true; ended = false; runs_after = true } ∷ []
 is_used = refl
 
 is_ended : touches_left (next_reaction one_call (instance 1 (last 5 ∷ []) false) []) ≡ end_touch 0 1 ∷ []
@@ -99,12 +105,16 @@ is_ended = refl
 
 -- module M(out V: int, out W: int) { fork { async (V) call think(4); } par { async (W) call think(4); } }
 -- Ids go in the order of the sites.
-two_calls : touches_left (first_reaction (with_sites (call 0 (Int (pos 4)) ∷ call 1 (Int (pos 4)) ∷ []) (program (number None 50 ∷ number None 57 ∷ []) [] (Par (Async 0) (Async 1)))) []) ≡ new_touch 0 1 ∷ new_touch 1 2 ∷ []
+two_calls :
+    touches_left (first_reaction (with_sites (call 0 (Int (pos 4)) ∷ call 1 (Int (pos 4)) ∷ []) (program (number None 50 ∷ number None 57 ∷ []) [] (Par (Async 0) (Async 1)))) [])
+    ≡ new_touch 0 1 ∷ new_touch 1 2 ∷ []
 two_calls = refl
 
 -- module M(out V: int, out W: int) { loop { async (V) call think(4); async (W) call think(4); } }
 -- The second ends and the first starts anew: touches stand in the order of the sites.
-one_after_the_other : touches_left (next_reaction (with_sites (call 0 (Int (pos 4)) ∷ call 1 (Int (pos 4)) ∷ []) (program (number None 50 ∷ number None 57 ∷ []) [] (Loop (Seq (Async 0) (Async 1))))) (Inside (Second (instance 1 (last 7 ∷ []) false))) []) ≡ new_touch 0 2 ∷ end_touch 1 1 ∷ []
+one_after_the_other :
+    touches_left (next_reaction (with_sites (call 0 (Int (pos 4)) ∷ call 1 (Int (pos 4)) ∷ []) (program (number None 50 ∷ number None 57 ∷ []) [] (Loop (Seq (Async 0) (Async 1))))) (Inside (Second (instance 1 (last 7 ∷ []) false))) [])
+    ≡ new_touch 0 2 ∷ end_touch 1 1 ∷ []
 one_after_the_other = refl
 
 -- ---- preemption
@@ -114,10 +124,14 @@ abbrev suspended_call : Kernel
 suspended_call = with_site (call 1 (Int (pos 4))) (program (input 47 ∷ number None 54 ∷ []) [] (Suspend (Now 0) (Async 0)))
 
 -- held with its queue, and the flag is set
-is_held : control_left (next_reaction suspended_call (Inside (instance 1 (last 5 ∷ []) false)) (on 0 ∷ [])) ≡ Some (At (Inside (instance 1 (last 5 ∷ []) true)))
+is_held :
+    control_left (next_reaction suspended_call (Inside (instance 1 (last 5 ∷ []) false)) (on 0 ∷ []))
+    ≡ Some (At (Inside (instance 1 (last 5 ∷ []) true)))
 is_held = refl
 
-held_touch : touches_left (next_reaction suspended_call (Inside (instance 1 [] false)) (on 0 ∷ [])) ≡ hold_touch 0 1 ∷ []
+held_touch :
+    touches_left (next_reaction suspended_call (Inside (instance 1 [] false)) (on 0 ∷ []))
+    ≡ hold_touch 0 1 ∷ []
 held_touch = refl
 
 -- module M(in R, out V: int) { do { async (V) call think(4); } every (R.now); }
@@ -131,31 +145,43 @@ running n = Inside (Inside (Both (First (Inside (First (instance n [] false)))) 
 restarts : control_left (next_reaction repeated_call (running 1) (on 0 ∷ [])) ≡ Some (At (running 2))
 restarts = refl
 
-restart_touches : touches_left (next_reaction repeated_call (running 1) (on 0 ∷ [])) ≡ record (hold_touch 0 1) { runs_after = false } ∷ new_touch 0 2 ∷ []
+restart_touches :
+    touches_left (next_reaction repeated_call (running 1) (on 0 ∷ []))
+    ≡ record (hold_touch 0 1) { runs_after = false } ∷ new_touch 0 2 ∷ []
 restart_touches = refl
 
 -- module M(out V: int) { trap T { fork { async (V) call think(4); } par { break T; } } }
 -- An instance that is started and killed in one reaction uses no id.
-started_and_killed : touches_left (first_reaction (with_site (call 0 (Int (pos 4))) (program (number None 50 ∷ []) [] (Trap (Par (Async 0) (Exit 0))))) []) ≡ record (new_touch 0 0) { runs_after = false } ∷ []
+started_and_killed :
+    touches_left (first_reaction (with_site (call 0 (Int (pos 4))) (program (number None 50 ∷ []) [] (Trap (Par (Async 0) (Exit 0))))) [])
+    ≡ record (new_touch 0 0) { runs_after = false } ∷ []
 started_and_killed = refl
 
 -- The fault of its argument counts all the same.
-killed_with_a_fault : first_reaction (with_site (call 0 (Arith (position 9) Div (Int (pos 1)) (Int (pos 0)))) (program (number None 50 ∷ []) [] (Trap (Par (Async 0) (Exit 0))))) [] ≡ Faulted (position 9) Divide
+killed_with_a_fault :
+    first_reaction (with_site (call 0 (Arith (position 9) Div (Int (pos 1)) (Int (pos 0)))) (program (number None 50 ∷ []) [] (Trap (Par (Async 0) (Exit 0))))) []
+    ≡ Faulted (position 9) Divide
 killed_with_a_fault = refl
 
 -- module M(in A, out X) { suspend (A.now) { signal S { emit S; pause; if (S.pre) { emit X; } } } }
 -- A local signal is frozen while it is suspended: its previous status is that of its last active reaction.
-frozen : runs (program (input 12 ∷ output 19 ∷ []) (hidden 50 ∷ []) (Suspend (Now 0) (Local 2 (Seq (Seq (emit 2) Pause) (If (Pre 2) (emit 1) Nothing))))) ([] ∷ (on 0 ∷ []) ∷ [] ∷ []) ≡ pauses [] ∷ pauses [] ∷ ends (on 1 ∷ []) ∷ []
+frozen :
+    runs (program (input 12 ∷ output 19 ∷ []) (hidden 50 ∷ []) (Suspend (Now 0) (Local 2 (Seq (Seq (emit 2) Pause) (If (Pre 2) (emit 1) Nothing))))) ([] ∷ (on 0 ∷ []) ∷ [] ∷ [])
+    ≡ pauses [] ∷ pauses [] ∷ ends (on 1 ∷ []) ∷ []
 frozen = refl
 
 -- module M(out X) { loop { signal S { if (S.pre) { emit X; } emit S; pause; } } }
 -- At each entry of its scope a local signal begins anew.
-begins_anew : runs (program (output 13 ∷ []) (hidden 32 ∷ []) (Loop (Local 1 (Seq (Seq (If (Pre 1) (emit 0) Nothing) (emit 1)) Pause)))) ([] ∷ [] ∷ []) ≡ pauses [] ∷ pauses [] ∷ []
+begins_anew :
+    runs (program (output 13 ∷ []) (hidden 32 ∷ []) (Loop (Local 1 (Seq (Seq (If (Pre 1) (emit 0) Nothing) (emit 1)) Pause)))) ([] ∷ [] ∷ [])
+    ≡ pauses [] ∷ pauses [] ∷ []
 begins_anew = refl
 
 -- module M(out X) { signal S: int { emit S(4); pause; if (S.preval == 4) { emit X; } } }
 -- Its mark keeps the value of its last reaction.
-keeps_its_value : runs (program (output 13 ∷ []) (record (number None 26) { dir = dir.Local } ∷ []) (Local 1 (Seq (Seq (emit_number 1 4) Pause) (If (Compare Eq (PreVal 1) (Int (pos 4))) (emit 0) Nothing)))) ([] ∷ [] ∷ []) ≡ pauses [] ∷ ends (on 0 ∷ []) ∷ []
+keeps_its_value :
+    runs (program (output 13 ∷ []) (record (number None 26) { dir = dir.Local } ∷ []) (Local 1 (Seq (Seq (emit_number 1 4) Pause) (If (Compare Eq (PreVal 1) (Int (pos 4))) (emit 0) Nothing)))) ([] ∷ [] ∷ [])
+    ≡ pauses [] ∷ ends (on 0 ∷ []) ∷ []
 keeps_its_value = refl
 
 -- module M() { trap T { fork { pause; } par { break T; } } }
@@ -167,21 +193,29 @@ left_for_good = refl
 
 -- module M(inout V: int) { emit V(1); }
 -- A given input is one more emission.
-given_and_emitted : runs (program (record (number None 15) { dir = dir.Both } ∷ []) [] (emit_number 0 1)) ((is 0 2 ∷ []) ∷ [] ∷ []) ≡ Refuses (Doubled 0) ∷ ends (is 0 1 ∷ []) ∷ []
+given_and_emitted :
+    runs (program (record (number None 15) { dir = dir.Both } ∷ []) [] (emit_number 0 1)) ((is 0 2 ∷ []) ∷ [] ∷ [])
+    ≡ Refuses (Doubled 0) ∷ ends (is 0 1 ∷ []) ∷ []
 given_and_emitted = refl
 
 -- module M(out X) { if (1 / 0 == 1) {} else { emit X; } }
-fault_of_a_test : runs (program (output 13 ∷ []) [] (If (Compare Eq (Arith (position 24) Div (Int (pos 1)) (Int (pos 0))) (Int (pos 1))) Nothing (emit 0))) ([] ∷ []) ≡ Refuses (Faulted (position 24) Divide) ∷ []
+fault_of_a_test :
+    runs (program (output 13 ∷ []) [] (If (Compare Eq (Arith (position 24) Div (Int (pos 1)) (Int (pos 0))) (Int (pos 1))) Nothing (emit 0))) ([] ∷ [])
+    ≡ Refuses (Faulted (position 24) Divide) ∷ []
 fault_of_a_test = refl
 
 -- module M() { suspend (1 / 0 == 1) { pause; } }
 -- A guard is met at the resumption alone.
-fault_of_a_guard : runs (program [] [] (Suspend (Compare Eq (Arith (position 24) Div (Int (pos 1)) (Int (pos 0))) (Int (pos 1))) Pause)) ([] ∷ [] ∷ []) ≡ pauses [] ∷ Refuses (Faulted (position 24) Divide) ∷ []
+fault_of_a_guard :
+    runs (program [] [] (Suspend (Compare Eq (Arith (position 24) Div (Int (pos 1)) (Int (pos 0))) (Int (pos 1))) Pause)) ([] ∷ [] ∷ [])
+    ≡ pauses [] ∷ Refuses (Faulted (position 24) Divide) ∷ []
 fault_of_a_guard = refl
 
 -- module M(in A, out V: int) { loop { if (A.now) { emit V(1 / 0); } pause; } }
 -- A refused reaction changes nothing.
-fault_changes_nothing : runs (program (input 12 ∷ number None 19 ∷ []) [] (Loop (Seq (If (Now 0) (Emit 1 (Some (Arith (position 58) Div (Int (pos 1)) (Int (pos 0))))) Nothing) Pause))) ([] ∷ (on 0 ∷ []) ∷ [] ∷ []) ≡ pauses [] ∷ Refuses (Faulted (position 58) Divide) ∷ pauses [] ∷ []
+fault_changes_nothing :
+    runs (program (input 12 ∷ number None 19 ∷ []) [] (Loop (Seq (If (Now 0) (Emit 1 (Some (Arith (position 58) Div (Int (pos 1)) (Int (pos 0))))) Nothing) Pause))) ([] ∷ (on 0 ∷ []) ∷ [] ∷ [])
+    ≡ pauses [] ∷ Refuses (Faulted (position 58) Divide) ∷ pauses [] ∷ []
 fault_changes_nothing = refl
 
 -- the fault of least position, and there the first kind, whichever is met first
@@ -212,5 +246,7 @@ least_declaration_second = refl
 
 -- module M(in A) { loop { if (A.now) { signal S { if (S.now) {} else { emit S; } } } pause; } }
 -- What an undecided local signal refuses is forgotten in the next reaction.
-causality_changes_nothing : runs (program (input 12 ∷ []) (hidden 44 ∷ []) (Loop (Seq (If (Now 0) (Local 1 (If (Now 1) Nothing (emit 1))) Nothing) Pause))) ([] ∷ (on 0 ∷ []) ∷ [] ∷ []) ≡ pauses [] ∷ Refuses (Undecided []) ∷ pauses [] ∷ []
+causality_changes_nothing :
+    runs (program (input 12 ∷ []) (hidden 44 ∷ []) (Loop (Seq (If (Now 0) (Local 1 (If (Now 1) Nothing (emit 1))) Nothing) Pause))) ([] ∷ (on 0 ∷ []) ∷ [] ∷ [])
+    ≡ pauses [] ∷ Refuses (Undecided []) ∷ pauses [] ∷ []
 causality_changes_nothing = refl

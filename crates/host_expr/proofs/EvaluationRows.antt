@@ -71,10 +71,14 @@ skips_a_choice : evaluated (Choose (Now 1) (Int (pos 2)) (at 1 Div (pos 1) (pos 
 skips_a_choice = refl
 
 -- the first fault from the left, also where the one on the right stands earlier in the text
-first_fault : evaluated (Arith (record { 0 = 1 }) Add (at 9 Add greatest (pos 1)) (at 5 Div (pos 1) (pos 0))) ≡ fault 9 Overflow
+first_fault :
+    evaluated (Arith (record { 0 = 1 }) Add (at 9 Add greatest (pos 1)) (at 5 Div (pos 1) (pos 0)))
+    ≡ fault 9 Overflow
 first_fault = refl
 
-fault_of_a_test : evaluated (Choose (Compare Lt (at 7 Rem (pos 1) (pos 0)) (Int (pos 1))) (Int (pos 1)) (Int (pos 2))) ≡ fault 7 Divide
+fault_of_a_test :
+    evaluated (Choose (Compare Lt (at 7 Rem (pos 1) (pos 0)) (Int (pos 1))) (Int (pos 1)) (Int (pos 2)))
+    ≡ fault 7 Divide
 fault_of_a_test = refl
 
 -- ---- arithmetic of 64 bits
@@ -114,7 +118,9 @@ product_reaches_least = refl
 
 -- ---- comparisons and texts
 
-compares_numbers : evaluated (And (Compare Le (Int (negsuc 0)) (Int (pos 0))) (Compare Gt (Int (pos 0)) (Int (negsuc 4)))) ≡ flag true
+compares_numbers :
+    evaluated (And (Compare Le (Int (negsuc 0)) (Int (pos 0))) (Compare Gt (Int (pos 0)) (Int (negsuc 4))))
+    ≡ flag true
 compares_numbers = refl
 
 compares_texts : evaluated (Compare Ne (Text (97 ∷ [])) (Text (97 ∷ 98 ∷ []))) ≡ flag true
@@ -123,10 +129,14 @@ compares_texts = refl
 compares_truths : evaluated (Compare Eq (Flag false) (Not (Now 1))) ≡ flag true
 compares_truths = refl
 
-joins_texts : evaluated (Arith (record { 0 = 1 }) Add (Text (97 ∷ [])) (Text (98 ∷ []))) ≡ cell.Known (value.Text (97 ∷ 98 ∷ []))
+joins_texts :
+    evaluated (Arith (record { 0 = 1 }) Add (Text (97 ∷ [])) (Text (98 ∷ [])))
+    ≡ cell.Known (value.Text (97 ∷ 98 ∷ []))
 joins_texts = refl
 
-text_too_long : evaluated (Arith (record { 0 = 3 }) Add (Text (replicate 4000 97)) (Text (replicate 97 97))) ≡ fault 3 TextLong
+text_too_long :
+    evaluated (Arith (record { 0 = 3 }) Add (Text (replicate 4000 97)) (Text (replicate 97 97)))
+    ≡ fault 3 TextLong
 text_too_long = refl
 
 -- ---- combinations
@@ -164,7 +174,9 @@ pure_signals_are_not = refl
 overflow_is_marked : is_overflowed (Some word.Plus) (value.Int least ∷ value.Int (negsuc 0) ∷ []) ≡ true
 overflow_is_marked = refl
 
-overflow_counts_as_default : combined kind.Int (Some word.Plus) (value.Int least ∷ value.Int (negsuc 0) ∷ []) ≡ value.Int (pos 0)
+overflow_counts_as_default :
+    combined kind.Int (Some word.Plus) (value.Int least ∷ value.Int (negsuc 0) ∷ [])
+    ≡ value.Int (pos 0)
 overflow_counts_as_default = refl
 
 greatest_does_not_overflow : is_overflowed (Some word.Max) (value.Int greatest ∷ value.Int greatest ∷ []) ≡ false
