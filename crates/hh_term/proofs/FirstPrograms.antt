@@ -1,18 +1,20 @@
 -- A program of the first language is a program.
-use Rattle.std.proofs.Common.{◌≡◌, sym, ap, subst, ◌∙◌, ℕ, ◌≤◌, Option, Some, None, List, [], ◌∷◌, length, take, drop, arith}
+use Rattle.std.proofs.Common.{◌≡◌, refl, sym, ap, subst, ◌∙◌, ℕ, suc, ◌+◌, ◌<◌, ◌≤◌, Option, Some, None, List, [], ◌∷◌, length, take, drop, arith}
 use Rattle.std.specs.Prelude.{◌≢◌, ◌-◌}
 use Rattle.std.proofs.Math.Seq.{take-length, drop-length}
 use Rattle.std.specs.List.{AllByRecursion, range_with_len}
 use Rattle.hh_base.specs.Value.{kind_of}
+use Rattle.hh_base.specs.declared.value.Kind.TheVariants as kind
 use Rattle.hh_term.specs.declared.program.Dir.{Dir}
 use Rattle.hh_term.specs.declared.program.Dir.TheVariants as dir
 use Rattle.hh_term.specs.declared.program.SignalDecl.{SignalDecl}
-use Rattle.hh_term.specs.Kernel.{Kernel}
+use Rattle.hh_term.specs.Kernel.{Kernel, Body, AsyncSite}
 use Rattle.hh_term.specs.FirstLanguage.{IsFirstLanguage, IsFirstSignal, IsOneWay}
-use Rattle.hh_term.specs.Sizes.{size_of, height_of}
+use Rattle.hh_term.specs.Sizes.{size_of, copied_size_of, height_of, traps_round}
+use Rattle.hh_term.specs.Scopes.{locals_of, sites_of}
 use Rattle.hh_term.specs.Fits.{WordFits, IsNamed, SignalFits, BodyIsFit, SiteFits}
 use Rattle.hh_term.specs.IsProgram.{IsProgram, NamesDiffer, NamesGoByPosition}
-use Rattle.hh_term.proofs.FirstStatements.{first_of, loops_wait, exits_fit, no_locals, no_sites, no_traps, same_size, statement_fits, uses_in_scope}
+use Rattle.hh_term.proofs.FirstStatements.{First, first_of, loops_wait, exits_fit, no_locals, no_sites, no_traps, same_size, statement_fits, uses_in_scope}
 
 not_local : (d : Dir) → IsOneWay d → d ≢ dir.Local
 not_local dir.Input h = λ e. absurd (cc)

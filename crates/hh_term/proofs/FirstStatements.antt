@@ -1,11 +1,13 @@
 -- The statements of the first language keep the rules of a program's statement.
-use Rattle.std.proofs.Common.{◌≡◌, refl, ap, ◌∙◌, ℕ, zero, suc, ◌<◌, ◌||◌, Some, None, List, [], ◌∷◌, ◌++◌, length, map, arith}
+use Rattle.std.proofs.Common.{◌≡◌, refl, sym, ap, subst, ◌∙◌, ℕ, zero, suc, ◌+◌, ◌<◌, ◌≤◌, Bool, true, false, ◌||◌, Option, Some, None, List, [], ◌∷◌, ◌++◌, length, map, arith}
 use Rattle.std.specs.Prelude.{slice_get, ◌==◌}
 use Rattle.std.proofs.lemmas.Bool.{lt-ltb}
 use Rattle.std.specs.List.{AllByRecursion, list_any}
+use Rattle.hh_base.specs.declared.value.Kind.{Kind}
 use Rattle.hh_base.specs.declared.value.Kind.TheVariants as kind
-use Rattle.host_expr.specs.Expression.{Int, Flag, Text, Now, Pre, NowVal, PreVal, Arg, Not, Neg, Arith, Compare, And, Or, Choose}
+use Rattle.host_expr.specs.Expression.{Expression, Int, Flag, Text, Now, Pre, NowVal, PreVal, Arg, Not, Neg, Arith, Compare, And, Or, Choose}
 use Rattle.host_expr.specs.Kinds.{status_kind}
+use Rattle.hh_term.specs.declared.program.Dir.{Dir}
 use Rattle.hh_term.specs.declared.program.Dir.TheVariants as dir
 use Rattle.hh_term.specs.declared.program.SignalDecl.{SignalDecl}
 use Rattle.hh_term.specs.Statement.{Statement, Nothing, Pause, Emit, If, Suspend, Seq, Par, Loop, Trap, Exit, Local, Async}
@@ -13,7 +15,7 @@ use Rattle.hh_term.specs.Kernel.{Kernel}
 use Rattle.hh_term.specs.FirstLanguage.{HasDirection, IsFirstStatement, IsFirstSignal}
 use Rattle.hh_term.specs.Sizes.{size_of, copied_size_of, traps_round}
 use Rattle.hh_term.specs.Scopes.{ExitsFit, LoopsWait, locals_of, sites_of, IsInScope, UsesInScope}
-use Rattle.hh_term.specs.Fits.{StatementFits}
+use Rattle.hh_term.specs.Fits.{HasKind, kinds_of, StatementFits}
 
 -- the statements of the first language, by rules
 pub data First (signals : List SignalDecl) : Statement → Type 0 where

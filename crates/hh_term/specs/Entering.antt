@@ -1,7 +1,7 @@
 -- An answer enters the mark of its instance. (This project's own, after the partial and last answers of HipHop.js's async.)
-use Rattle.std.specs.Prelude.{ℕ, ◌-◌, Bool, false, not, cond, ◌&&◌, ◌==◌, Option, Some, None, List, [], ◌∷◌, ◌++◌, length, slice_get, option_map}
+use Rattle.std.specs.Prelude.{ℕ, ◌-◌, Bool, true, false, not, cond, ◌&&◌, ◌==◌, Option, Some, None, List, [], ◌∷◌, ◌++◌, length, slice_get, option_map}
 use Rattle.hh_base.specs.declared.item.Item.{Item}
-use Rattle.hh_term.specs.Selection.{Selection, AtPause, AtAsync, First, Second, Both, Inside, Scope, Control, At}
+use Rattle.hh_term.specs.Selection.{Selection, AtPause, AtAsync, First, Second, Both, Inside, Scope, Control, Fresh, At, Ended}
 
 -- the queue ends with a last item
 abbrev pub ends_with_last : List Item → Bool
