@@ -5,9 +5,13 @@ pub mod Rounds
 pub mod WithinCan
 pub mod MustCanLaws
 pub mod Standstill
+pub mod Interface
 pub mod Stepping
 pub mod StaticCodes
 pub mod FirstStatements
 pub mod FirstPrograms
 pub mod FlagSets
 pub mod ExamplePrograms
+pub mod Runs
+pub mod Rows
+pub mod AsyncRows

@@ -17,19 +17,19 @@ use Rattle.hh_term.specs.Lawful.{MustExtendsCanShrinks, MustIsWithinCan, Nothing
 use Rattle.hh_term.proofs.Embedding.{same_bag_up, same_bag_down}
 use Rattle.hh_term.proofs.Rises.{Rises, gives_up, sequence_up, parallel_up, trapped_up, chosen_up, held_up}
 use Rattle.hh_term.proofs.Rounds.{Grows, scoped_up}
-use Rattle.hh_term.proofs.WithinCan.{gives_sound, gives_quiet, sequence_sound, sequence_quiet, parallel_sound, parallel_quiet, trapped_sound, trapped_quiet, hide_sound, hide_quiet, chosen_sound, chosen_quiet, held_sound, held_quiet}
+use Rattle.hh_term.proofs.WithinCan.{gives_within, gives_nothing, sequence_within, sequence_nothing, parallel_within, parallel_nothing, trapped_within, trapped_nothing, hide_within, hide_nothing, chosen_within, chosen_nothing, held_within, held_nothing}
 
 -- For one task: more known gives more known; what must be completes can be completes; nothing must be completes where nothing is known to run.
 pub record Lawful (p : Index → Env → MustCan) : Type 0 where
   pub up : (i j : Index) (E F : Env) → IndexBelow i j → EnvBelow E F → MustCanBelow (p i E) (p j F)
-  pub sound : (i : Index) (E : Env) → MustWithinCan (p i E)
-  pub quiet : (E : Env) → NothingSure (p Possible E)
+  pub within : (i : Index) (E : Env) → MustWithinCan (p i E)
+  pub nothing : (E : Env) → NothingSure (p Possible E)
 
 gives_lawful : (b : Bag) (k : ℕ) → Lawful (λ i E. gives b k i)
 gives_lawful b k = record {
   up = λ i j E F h g. gives_up b b k i j (same_bag_up b) (same_bag_down b) h;
-  sound = λ i E. gives_sound b k i;
-  quiet = λ E. gives_quiet b k;
+  within = λ i E. gives_within b k i;
+  nothing = λ E. gives_nothing b k;
 }
 
 emitted_up : (e : Option Expression) (E F : Env) → EnvBelow E F → CellBelow (emitted e E) (emitted e F)
@@ -39,8 +39,8 @@ emitted_up (Some e) E F g = eval_up E F [] g e
 emit_lawful : (s : ℕ) (e : Option Expression) → Lawful (λ i E. gives ((s, emitted e E) ∷ []) 0 i)
 emit_lawful s e = record {
   up = λ i j E F h g. let c = emitted_up e E F g in gives_up ((s, emitted e E) ∷ []) ((s, emitted e F) ∷ []) 0 i j (keep (refl, c) ended) (keep (refl, c) ended) h;
-  sound = λ i E. gives_sound ((s, emitted e E) ∷ []) 0 i;
-  quiet = λ E. gives_quiet ((s, emitted e E) ∷ []) 0;
+  within = λ i E. gives_within ((s, emitted e E) ∷ []) 0 i;
+  nothing = λ E. gives_nothing ((s, emitted e E) ∷ []) 0;
 }
 
 rises : (p : Index → Env → MustCan) → Lawful p → (E F : Env) → EnvBelow E F → Rises (λ i. p i E) (λ i. p i F)
@@ -49,46 +49,46 @@ rises p h E F g = record { up = λ i j l. h.up i j E F l g }
 choose_lawful : (e : Expression) (p q : Index → Env → MustCan) → Lawful p → Lawful q → Lawful (λ i E. chosen (eval_of e E []) i (λ j. p j E) (λ j. q j E))
 choose_lawful e p q h g = record {
   up = λ i j E F l k. chosen_up (eval_of e E []) (eval_of e F []) i j (λ j. p j E) (λ j. q j E) (λ j. p j F) (λ j. q j F) (eval_up E F [] k e) l (rises p h E F k) (rises q g E F k);
-  sound = λ i E. chosen_sound (eval_of e E []) i (λ j. p j E) (λ j. q j E) (h.sound i E) (g.sound i E);
-  quiet = λ E. chosen_quiet (eval_of e E []) (λ j. p j E) (λ j. q j E) (h.quiet E) (g.quiet E);
+  within = λ i E. chosen_within (eval_of e E []) i (λ j. p j E) (λ j. q j E) (h.within i E) (g.within i E);
+  nothing = λ E. chosen_nothing (eval_of e E []) (λ j. p j E) (λ j. q j E) (h.nothing E) (g.nothing E);
 }
 
 hold_lawful : (e : Expression) (p : Index → Env → MustCan) → Lawful p → Lawful (λ i E. held (eval_of e E []) i (λ j. p j E))
 hold_lawful e p h = record {
   up = λ i j E F l k. held_up (eval_of e E []) (eval_of e F []) i j (λ j. p j E) (λ j. p j F) (eval_up E F [] k e) l (rises p h E F k);
-  sound = λ i E. held_sound (eval_of e E []) i (λ j. p j E) (h.sound i E);
-  quiet = λ E. held_quiet (eval_of e E []) (λ j. p j E) (h.quiet E);
+  within = λ i E. held_within (eval_of e E []) i (λ j. p j E) (h.within i E);
+  nothing = λ E. held_nothing (eval_of e E []) (λ j. p j E) (h.nothing E);
 }
 
 sequence_lawful : (p q : Index → Env → MustCan) → Lawful p → Lawful q → Lawful (λ i E. sequence (p i E) (λ j. q j E))
 sequence_lawful p q h g = record {
   up = λ i j E F l k. sequence_up (p i E) (p j F) (λ n. q n E) (λ n. q n F) (h.up i j E F l k) (λ m n le. g.up m n E F le k);
-  sound = λ i E. sequence_sound (p i E) (λ j. q j E) (h.sound i E) (λ j. g.sound j E) (g.quiet E);
-  quiet = λ E. sequence_quiet (p Possible E) (λ j. q j E) (h.quiet E) (g.quiet E);
+  within = λ i E. sequence_within (p i E) (λ j. q j E) (h.within i E) (λ j. g.within j E) (g.nothing E);
+  nothing = λ E. sequence_nothing (p Possible E) (λ j. q j E) (h.nothing E) (g.nothing E);
 }
 
 parallel_lawful : (p q : Index → Env → MustCan) → Lawful p → Lawful q → Lawful (λ i E. parallel (p i E) (q i E))
 parallel_lawful p q h g = record {
   up = λ i j E F l k. parallel_up (p i E) (q i E) (p j F) (q j F) (h.up i j E F l k) (g.up i j E F l k);
-  sound = λ i E. parallel_sound (p i E) (q i E) (h.sound i E) (g.sound i E);
-  quiet = λ E. parallel_quiet (p Possible E) (q Possible E) (h.quiet E) (g.quiet E);
+  within = λ i E. parallel_within (p i E) (q i E) (h.within i E) (g.within i E);
+  nothing = λ E. parallel_nothing (p Possible E) (q Possible E) (h.nothing E) (g.nothing E);
 }
 
 trapped_lawful : (p : Index → Env → MustCan) → Lawful p → Lawful (λ i E. trapped (p i E))
 trapped_lawful p h = record {
   up = λ i j E F l k. trapped_up (p i E) (p j F) (h.up i j E F l k);
-  sound = λ i E. trapped_sound (p i E) (h.sound i E);
-  quiet = λ E. trapped_quiet (p Possible E) (h.quiet E);
+  within = λ i E. trapped_within (p i E) (h.within i E);
+  nothing = λ E. trapped_nothing (p Possible E) (h.nothing E);
 }
 
 pub grows : (p : Index → Env → MustCan) → Lawful p → (i j : Index) → IndexBelow i j → Grows (p i) (p j)
-grows p h i j l = record { up = λ E F g. h.up i j E F l g; sound = λ E. h.sound j E }
+grows p h i j l = record { up = λ E F g. h.up i j E F l g; within = λ E. h.within j E }
 
 scoped_lawful : (T : Table) (s : ℕ) (c : SigCell) (p : Index → Env → MustCan) → Lawful p → Lawful (λ i E. scoped T s (p i) E c)
 scoped_lawful T s c p h = record {
   up = λ i j E F l k. scoped_up T s (p i) (p j) E F c c (grows p h i j l) k (signal_refl c);
-  sound = λ i E. let F = put E s (solve T s (p i) E c) in hide_sound s (p i F) (h.sound i F);
-  quiet = λ E. let F = put E s (solve T s (p Possible) E c) in hide_quiet s (p Possible F) (h.quiet F);
+  within = λ i E. let F = put E s (solve T s (p i) E c) in hide_within s (p i F) (h.within i F);
+  nothing = λ E. let F = put E s (solve T s (p Possible) E c) in hide_nothing s (p Possible F) (h.nothing F);
 }
 
 -- ---- the statements
@@ -138,7 +138,7 @@ pub must_extends_can_shrinks : MustExtendsCanShrinks
 must_extends_can_shrinks T p t i j E F h g = (must_can_lawful T p t).up i j E F h g
 
 pub must_is_within_can : MustIsWithinCan
-must_is_within_can T p t = (must_can_lawful T p t).sound
+must_is_within_can T p t = (must_can_lawful T p t).within
 
 pub nothing_is_sure_where_possible : NothingIsSureWherePossible
-nothing_is_sure_where_possible T p t = (must_can_lawful T p t).quiet
+nothing_is_sure_where_possible T p t = (must_can_lawful T p t).nothing

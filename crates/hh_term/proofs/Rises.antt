@@ -16,8 +16,8 @@ gives_up b b' k Executed Possible up down h = cc
 gives_up b b' k Possible Executed up down h = record { must = nothing_sub b'; code = tt; can = down; codes = λ c e. e }
 gives_up b b' k Possible Possible up down h = record { must = ended; code = tt; can = down; codes = λ c e. e }
 
-pub quiet_up : (k : ℕ) (i j : Index) → IndexBelow i j → MustCanBelow (gives [] k i) (gives [] k j)
-quiet_up k i j h = gives_up [] [] k i j ended ended h
+pub code_up : (k : ℕ) (i j : Index) → IndexBelow i j → MustCanBelow (gives [] k i) (gives [] k j)
+code_up k i j h = gives_up [] [] k i j ended ended h
 
 pub one_of_up : (a b a' b' : MustCan) → MustCanBelow a a' → MustCanBelow b b' → MustCanBelow (one_of a b) (one_of a' b')
 one_of_up a b a' b' h g = record { must = ended; code = tt; can = sub_append h.can g.can; codes = λ c. or_mono (a'.codes c) (b'.codes c) (a.codes c) (b.codes c) (h.codes c) (g.codes c) }
@@ -90,9 +90,9 @@ chosen_up (cell.Known v) d i j p q p' q' l h f g = subst (λ z. MustCanBelow (co
 chosen_up (cell.Faulted o k) d i j p q p' q' l h f g = subst (λ z. MustCanBelow (q i) (chosen z j p' q')) (sym l) (g.up i j h)
 
 pub held_up : (c d : Cell) (i j : Index) (p p' : Index → MustCan) → CellBelow c d → IndexBelow i j → Rises p p' → MustCanBelow (held c i p) (held d j p')
-held_up cell.Unknown cell.Unknown i j p p' l h f = one_of_up (p Possible) (gives [] 1 Possible) (p' Possible) (gives [] 1 Possible) (f.up Possible Possible tt) (quiet_up 1 Possible Possible tt)
+held_up cell.Unknown cell.Unknown i j p p' l h f = one_of_up (p Possible) (gives [] 1 Possible) (p' Possible) (gives [] 1 Possible) (f.up Possible Possible tt) (code_up 1 Possible Possible tt)
 held_up cell.Unknown (cell.Known v) i j p p' l h f =
-    cond_up (truth v) (one_of (p Possible) (gives [] 1 Possible)) (gives [] 1 j) (p' j) (second_up (p Possible) (gives [] 1 Possible) (gives [] 1 j) (quiet_up 1 Possible j tt)) (first_up (p Possible) (gives [] 1 Possible) (p' j) (f.up Possible j tt))
+    cond_up (truth v) (one_of (p Possible) (gives [] 1 Possible)) (gives [] 1 j) (p' j) (second_up (p Possible) (gives [] 1 Possible) (gives [] 1 j) (code_up 1 Possible j tt)) (first_up (p Possible) (gives [] 1 Possible) (p' j) (f.up Possible j tt))
 held_up cell.Unknown (cell.Faulted o k) i j p p' l h f = first_up (p Possible) (gives [] 1 Possible) (p' j) (f.up Possible j tt)
-held_up (cell.Known v) d i j p p' l h f = subst (λ z. MustCanBelow (cond (truth v) (gives [] 1 i) (p i)) (held z j p')) (sym l) (cond_both_up (truth v) (gives [] 1 i) (p i) (gives [] 1 j) (p' j) (quiet_up 1 i j h) (f.up i j h))
+held_up (cell.Known v) d i j p p' l h f = subst (λ z. MustCanBelow (cond (truth v) (gives [] 1 i) (p i)) (held z j p')) (sym l) (cond_both_up (truth v) (gives [] 1 i) (p i) (gives [] 1 j) (p' j) (code_up 1 i j h) (f.up i j h))
 held_up (cell.Faulted o k) d i j p p' l h f = subst (λ z. MustCanBelow (p i) (held z j p')) (sym l) (f.up i j h)

@@ -72,7 +72,7 @@ raised_up T s c d a b p v h g =
 -- a body at two environments
 pub record Grows (p q : Env → MustCan) : Type 0 where
   pub up : (E F : Env) → EnvBelow E F → MustCanBelow (p E) (q F)
-  pub sound : (E : Env) → MustWithinCan (q E)
+  pub within : (E : Env) → MustWithinCan (q E)
 
 put_at : (b : Bool) (c d x y : SigCell) → SignalBelow c d → SignalBelow x y → SignalBelow (cond b c x) (cond b d y)
 put_at true c d x y h g = h
@@ -82,7 +82,7 @@ pub put_up : (E F : Env) (s : ℕ) (c d : SigCell) → EnvBelow E F → SignalBe
 put_up E F s c d h g = record { at = λ t. put_at (eqb t s) c d (E t) (F t) g (h.at t) }
 
 pub round_up : (T : Table) (s : ℕ) (p q : Env → MustCan) (E F : Env) (c d : SigCell) → Grows p q → EnvBelow E F → SignalBelow c d → SignalBelow (round T s p E c) (round T s q F d)
-round_up T s p q E F c d h g l = raised_up T s c d (p (put E s c)) (q (put F s d)) l.pre l.preval (h.up (put E s c) (put F s d) (put_up E F s c d g l)) (h.sound (put F s d))
+round_up T s p q E F c d h g l = raised_up T s c d (p (put E s c)) (q (put F s d)) l.pre l.preval (h.up (put E s c) (put F s d) (put_up E F s c d g l)) (h.within (put F s d))
 
 pub solve_up : (T : Table) (s : ℕ) (p q : Env → MustCan) (E F : Env) (c d : SigCell) → Grows p q → EnvBelow E F → SignalBelow c d → SignalBelow (solve T s p E c) (solve T s q F d)
 solve_up T s p q E F c d h g l = round_up T s p q E F (round T s p E c) (round T s q F d) h g (round_up T s p q E F c d h g l)

@@ -3,14 +3,14 @@ use Rattle.std.proofs.Common.{◌≡◌, ℕ, zero, suc, ◌+◌, Bool, true, fa
 use Rattle.std.specs.Prelude.{◌∷◌}
 use Rattle.host_expr.specs.declared.cell.Cell.{Cell}
 use Rattle.host_expr.specs.declared.cell.Cell.TheVariants as cell
-use Rattle.host_expr.specs.Environment.{Env, put, unsolved}
+use Rattle.host_expr.specs.Environment.{put, unsolved}
 use Rattle.host_expr.specs.Evaluation.{eval_of, truth}
 use Rattle.host_expr.proofs.Tests.{or_mono, or_left, or_right}
-use Rattle.hh_term.specs.Statement.{Statement, Nothing, Pause, Emit, If, Suspend, Seq, Par, Loop, Trap, Exit, Local, Async}
+use Rattle.hh_term.specs.Statement.{Nothing, Pause, Emit, If, Suspend, Seq, Par, Loop, Trap, Exit, Local, Async}
 use Rattle.hh_term.specs.Selection.{Start}
 use Rattle.hh_term.specs.Codes.{CodeSet, only, either, without_end, static_codes}
-use Rattle.hh_term.specs.MustCan.{Table, MustCan, Bag, Index, Executed, Possible, must_can, gives, emitted, solve, chosen, is_end}
-use Rattle.hh_term.specs.Lawful.{LoopsWait, StartedCodesAreStatic}
+use Rattle.hh_term.specs.MustCan.{MustCan, Bag, Index, Executed, Possible, must_can, gives, emitted, solve, chosen, is_end}
+use Rattle.hh_term.specs.Lawful.{StartedCodesAreStatic}
 use Rattle.hh_term.proofs.CodeSets.{in_turn_mono, greater_mono, lowered_mono}
 
 cond_codes : (b : Bool) (x y : MustCan) (c : ℕ) (K : CodeSet) → (x.codes c ≡ true → K c ≡ true) → (y.codes c ≡ true → K c ≡ true) → (cond b x y).codes c ≡ true → K c ≡ true
@@ -30,21 +30,18 @@ loop_codes : (K L : CodeSet) → L 0 ≡ false → ((c : ℕ) → K c ≡ true �
 loop_codes K L z h zero e = let t = h 0 e in cc
 loop_codes K L z h (suc c) e = h (suc c) e
 
-pub static : (T : Table) (p : Statement) (i : Index) (E : Env) → LoopsWait p → (c : ℕ) → (must_can T p Start i E).codes c ≡ true → static_codes p c ≡ true
-static T Nothing i E n c e = gives_codes [] 0 i c e
-static T Pause i E n c e = gives_codes [] 1 i c e
-static T (Emit s x) i E n c e = gives_codes ((s, emitted x E) ∷ []) 0 i c e
-static T (If x p q) i E n c e = chosen_codes (eval_of x E []) i (λ j. must_can T p Start j E) (λ j. must_can T q Start j E) (static_codes p) (static_codes q) (λ j. static T p j E n.0) (λ j. static T q j E n.1) c e
-static T (Suspend x p) i E n c e = static T p i E n c e
-static T (Seq p q) i E n c e =
-    let j = is_end (must_can T p Start i E).code in
-    in_turn_mono (must_can T p Start i E).codes (must_can T q Start j E).codes (static_codes p) (static_codes q) (static T p i E n.0) (static T q j E n.1) c e
-static T (Par p q) i E n c e = greater_mono (must_can T p Start i E).codes (must_can T q Start i E).codes (static_codes p) (static_codes q) (static T p i E n.0) (static T q i E n.1) c e
-static T (Loop p) i E n c e = loop_codes (must_can T p Start i E).codes (static_codes p) n.0 (static T p i E n.1) c e
-static T (Trap p) i E n c e = lowered_mono (must_can T p Start i E).codes (static_codes p) (static T p i E n) c e
-static T (Exit k) i E n c e = gives_codes [] (k + 2) i c e
-static T (Local s p) i E n c e = static T p i (put E s (solve T s (must_can T p Start i) E (unsolved false (T.first s)))) n c e
-static T (Async k) i E n c e = gives_codes [] 1 i c e
-
 pub started_codes_are_static : StartedCodesAreStatic
-started_codes_are_static = static
+started_codes_are_static T Nothing i E n c e = gives_codes [] 0 i c e
+started_codes_are_static T Pause i E n c e = gives_codes [] 1 i c e
+started_codes_are_static T (Emit s x) i E n c e = gives_codes ((s, emitted x E) ∷ []) 0 i c e
+started_codes_are_static T (If x p q) i E n c e = chosen_codes (eval_of x E []) i (λ j. must_can T p Start j E) (λ j. must_can T q Start j E) (static_codes p) (static_codes q) (λ j. started_codes_are_static T p j E n.0) (λ j. started_codes_are_static T q j E n.1) c e
+started_codes_are_static T (Suspend x p) i E n c e = started_codes_are_static T p i E n c e
+started_codes_are_static T (Seq p q) i E n c e =
+    let j = is_end (must_can T p Start i E).code in
+    in_turn_mono (must_can T p Start i E).codes (must_can T q Start j E).codes (static_codes p) (static_codes q) (started_codes_are_static T p i E n.0) (started_codes_are_static T q j E n.1) c e
+started_codes_are_static T (Par p q) i E n c e = greater_mono (must_can T p Start i E).codes (must_can T q Start i E).codes (static_codes p) (static_codes q) (started_codes_are_static T p i E n.0) (started_codes_are_static T q i E n.1) c e
+started_codes_are_static T (Loop p) i E n c e = loop_codes (must_can T p Start i E).codes (static_codes p) n.0 (started_codes_are_static T p i E n.1) c e
+started_codes_are_static T (Trap p) i E n c e = lowered_mono (must_can T p Start i E).codes (static_codes p) (started_codes_are_static T p i E n) c e
+started_codes_are_static T (Exit k) i E n c e = gives_codes [] (k + 2) i c e
+started_codes_are_static T (Local s p) i E n c e = started_codes_are_static T p i (put E s (solve T s (must_can T p Start i) E (unsolved false (T.first s)))) n c e
+started_codes_are_static T (Async k) i E n c e = gives_codes [] 1 i c e

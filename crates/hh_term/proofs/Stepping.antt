@@ -185,8 +185,8 @@ local_agree T s p q E c a h e = at_test (is_decided (solve T s p E c).status && 
         record { code = g.code ∙ ap (λ z. Some z.code) same; must = ap (without s) g.must ∙ ap (λ z. z.bag) same }
     at_test false e = cc
 
-quiet_of : (T : Table) (p : Statement) (E : Env) → NothingSure (must_can T p Start Possible E)
-quiet_of T p E = (must_can_lawful T p Start).quiet E
+nothing_started : (T : Table) (p : Statement) (E : Env) → NothingSure (must_can T p Start Possible E)
+nothing_started T p E = (must_can_lawful T p Start).nothing E
 
 -- ---- the statements
 
@@ -206,8 +206,8 @@ step_agrees T (Suspend x p) Start E a e = wrap_agree Inside (step T p Start E) (
 step_agrees T (Suspend x p) (Resume (Inside m)) E a e =
     guard_agree (eval_of x E []) (rests (Inside (held_mark m)) (held_touches p m)) (wrap Inside (step T p (Resume m) E)) (λ j. must_can T p (Resume m) j E) a refl refl
     (λ b f. wrap_agree Inside (step T p (Resume m) E) (must_can T p (Resume m) Executed E) b (step_agrees T p (Resume m) E) f) e
-step_agrees T (Seq p q) Start E a e = then_agree First Second (step T p Start E) (step T q Start E) (must_can T p Start Executed E) (λ j. must_can T q Start j E) a (step_agrees T p Start E) (step_agrees T q Start E) (quiet_of T q E) e
-step_agrees T (Seq p q) (Resume (First m)) E a e = then_agree First Second (step T p (Resume m) E) (step T q Start E) (must_can T p (Resume m) Executed E) (λ j. must_can T q Start j E) a (step_agrees T p (Resume m) E) (step_agrees T q Start E) (quiet_of T q E) e
+step_agrees T (Seq p q) Start E a e = then_agree First Second (step T p Start E) (step T q Start E) (must_can T p Start Executed E) (λ j. must_can T q Start j E) a (step_agrees T p Start E) (step_agrees T q Start E) (nothing_started T q E) e
+step_agrees T (Seq p q) (Resume (First m)) E a e = then_agree First Second (step T p (Resume m) E) (step T q Start E) (must_can T p (Resume m) Executed E) (λ j. must_can T q Start j E) a (step_agrees T p (Resume m) E) (step_agrees T q Start E) (nothing_started T q E) e
 step_agrees T (Seq p q) (Resume (Second m)) E a e = wrap_agree Second (step T q (Resume m) E) (must_can T q (Resume m) Executed E) a (step_agrees T q (Resume m) E) e
 step_agrees T (Par p q) Start E a e =
     let r = bind_inv (step T p Start E) (λ a. step T q Start E >>= (λ b. Some (beside a b))) a e in
@@ -224,7 +224,7 @@ step_agrees T (Par p q) (Resume (Both m n)) E a e =
     let r' = bind_inv (step T q (Resume n) E) (λ b. Some (beside r.0 b)) a r.2 in
     both_agree (must_can T p (Resume m) Executed E) (must_can T q (Resume n) Executed E) r.0 r'.0 a (step_agrees T p (Resume m) E r.0 r.1) (step_agrees T q (Resume n) E r'.0 r'.1) (some_inv (beside r.0 r'.0) a r'.2)
 step_agrees T (Loop p) Start E a e = wrap_agree Inside (step T p Start E) (must_can T p Start Executed E) a (step_agrees T p Start E) e
-step_agrees T (Loop p) (Resume (Inside m)) E a e = then_agree Inside Inside (step T p (Resume m) E) (step T p Start E) (must_can T p (Resume m) Executed E) (λ j. must_can T p Start j E) a (step_agrees T p (Resume m) E) (step_agrees T p Start E) (quiet_of T p E) e
+step_agrees T (Loop p) (Resume (Inside m)) E a e = then_agree Inside Inside (step T p (Resume m) E) (step T p Start E) (must_can T p (Resume m) Executed E) (λ j. must_can T p Start j E) a (step_agrees T p (Resume m) E) (step_agrees T p Start E) (nothing_started T p E) e
 step_agrees T (Trap p) Start E a e = trap_agree (step T p Start E) (must_can T p Start Executed E) a (step_agrees T p Start E) e
 step_agrees T (Trap p) (Resume (Inside m)) E a e = trap_agree (step T p (Resume m) E) (must_can T p (Resume m) Executed E) a (step_agrees T p (Resume m) E) e
 step_agrees T (Local s p) Start E a e = local_agree T s (must_can T p Start Executed) (step T p Start) E (unsolved false (T.first s)) a (λ F b f. step_agrees T p Start F b f) e

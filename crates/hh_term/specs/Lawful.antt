@@ -1,14 +1,16 @@
 -- The laws of Must, Can, Solve and Step, as statements. The public functions of `laws` have them as contracts. (Berry, The
 -- Constructive Semantics of Pure Esterel; with values, previous status and value, faults and async they are this project's own.)
-use Rattle.std.specs.Prelude.{◌≡◌, ℕ, Bool, true, false, Some}
+use Rattle.std.specs.Prelude.{◌≡◌, ℕ, Bool, true, Some, List}
 use Rattle.hh_base.specs.declared.value.Value.{Value}
 use Rattle.host_expr.specs.Environment.{Env, unsolved}
 use Rattle.host_expr.specs.Knows.{EnvBelow}
-use Rattle.hh_term.specs.Statement.{Statement, If, Suspend, Seq, Par, Loop, Trap, Local}
-use Rattle.hh_term.specs.Selection.{Task, Start}
+use Rattle.hh_term.specs.Statement.{Statement}
+use Rattle.hh_term.specs.Selection.{Control, Task, Start}
 use Rattle.hh_term.specs.Codes.{static_codes}
+use Rattle.hh_term.specs.Scopes.{LoopsWait}
 use Rattle.hh_term.specs.MustCan.{Table, Index, Executed, Possible, must_can, round, solve}
 use Rattle.hh_term.specs.Step.{Stepped, step}
+use Rattle.hh_term.specs.Reaction.{Outer, with_given, solved_cell, nest, program_must_can}
 use Rattle.hh_term.specs.Knows.{IndexBelow, MustCanBelow, MustWithinCan, NothingSure}
 
 -- Where more is known of the signals, or of what is executed, more must be done and less can be done.
@@ -31,6 +33,13 @@ TwoRoundsStandStill =
     (T : Table) (p : Statement) (t : Task) (i : Index) (s : ℕ) (E : Env) (pre : Bool) (preval : Value) →
     round T s (must_can T p t i) E (solve T s (must_can T p t i) E (unsolved pre preval)) ≡ solve T s (must_can T p t i) E (unsolved pre preval)
 
+-- Nor does it for an interface signal, a given input counting as one more emission.
+abbrev pub InterfaceStandsStill : Type 0
+InterfaceStandsStill =
+    (T : Table) (p : Statement) (c : Control) (o : Outer) (os : List Outer) (E : Env) →
+    let inner = nest T os (program_must_can T p c) in
+    round T o.signal (λ F. with_given o (inner F)) E (solved_cell T o inner E) ≡ solved_cell T o inner E
+
 -- A defined step emits what must be emitted.
 abbrev pub StepHasTheBagOfMust : Type 0
 StepHasTheBagOfMust = (T : Table) (p : Statement) (t : Task) (E : Env) (a : Stepped) → step T p t E ≡ Some a → (must_can T p t Executed E).must ≡ a.bag
@@ -38,17 +47,6 @@ StepHasTheBagOfMust = (T : Table) (p : Statement) (t : Task) (E : Env) (a : Step
 -- A defined step completes with the code of Must.
 abbrev pub StepHasTheCodeOfMust : Type 0
 StepHasTheCodeOfMust = (T : Table) (p : Statement) (t : Task) (E : Env) (a : Stepped) → step T p t E ≡ Some a → (must_can T p t Executed E).code ≡ Some a.code
-
--- no loop has a body that may end in the reaction in which it starts
-abbrev pub LoopsWait : Statement → Type 0
-LoopsWait (If e p q) = LoopsWait p × LoopsWait q
-LoopsWait (Suspend e p) = LoopsWait p
-LoopsWait (Seq p q) = LoopsWait p × LoopsWait q
-LoopsWait (Par p q) = LoopsWait p × LoopsWait q
-LoopsWait (Loop p) = (static_codes p 0 ≡ false) × LoopsWait p
-LoopsWait (Trap p) = LoopsWait p
-LoopsWait (Local s p) = LoopsWait p
-LoopsWait _ = Unit {0}
 
 -- A started statement can complete only with its static codes.
 abbrev pub StartedCodesAreStatic : Type 0

@@ -1,7 +1,7 @@
 //! Laws of Must, Can, Solve and Step. Each call does nothing; its contract is the law.
 
 ghost use Rattle.hh_term.specs.Lawful.{MustExtendsCanShrinks, MustIsWithinCan, NothingIsSureWherePossible, TwoRoundsStandStill};
-ghost use Rattle.hh_term.specs.Lawful.{StepHasTheBagOfMust, StepHasTheCodeOfMust, StartedCodesAreStatic};
+ghost use Rattle.hh_term.specs.Lawful.{StepHasTheBagOfMust, StepHasTheCodeOfMust, StartedCodesAreStatic, InterfaceStandsStill};
 
 /// Where the environment or the index knows more, Must extends and Can shrinks.
 pub fn knows_more()
@@ -20,7 +20,8 @@ pub fn nothing_sure()
 
 /// Two rounds of Solve reach the standstill.
 pub fn two_rounds()
-    ensures { TwoRoundsStandStill }
+    ensures scope { TwoRoundsStandStill }
+    ensures interface { InterfaceStandsStill }
 {}
 
 /// A defined step has the bag and the code of Must.

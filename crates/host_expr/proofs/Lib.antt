@@ -2,3 +2,4 @@ pub mod Tests
 pub mod Information
 pub mod Evaluating
 pub mod Reordered
+pub mod EvaluationRows
