@@ -1,5 +1,5 @@
 -- The names of a program's interface are names of its signals.
-use Rattle.std.proofs.Common.{◌≡◌, ◌≢◌, ◌<◌, ◌≤◌, ◌+◌, ◌^◌, ◌⊎◌, ℕ, zero, suc, Bool, true, false, Option, Some, None, List, [], ◌∷◌, length, take, drop, refl, sym, ap, ◌∙◌, subst, arith, inl, inr, ⊎_elim}
+use Rattle.std.proofs.Common.{◌≡◌, ◌≢◌, ◌<◌, ◌≤◌, ◌+◌, ◌^◌, ◌⊎◌, ℕ, zero, suc, Bool, true, false, Option, Some, None, List, [], ◌∷◌, length, take, drop, refl, sym, ap, ◌∙◌, subst, arith, lit≤, inl, inr, ⊎_elim}
 use Rattle.std.specs.Prelude.{IsSome, slice_get}
 use Rattle.std.specs.List.{AllByRecursion}
 use Rattle.std.proofs.lemmas.Bool.{cases_eq, cases_lt}
@@ -79,3 +79,13 @@ has_names signals n few local names = record {
 -- the signals of a program have names
 pub program_has_names : (K : Kernel) → IsProgram K → K.interface ≤ 2 ^ 32 → HasNames K.signals
 program_has_names K rules few = has_names K.signals K.interface few rules.others_local rules.names_differ
+
+-- three signals with different names
+pub three_names : (signals : List SignalDecl) (a b c : SignalDecl) (k l m : List ℕ) → signals ≡ a ∷ b ∷ c ∷ [] → a.name ≡ Some k → b.name ≡ Some l → c.name ≡ Some m → k ≢ l → k ≢ m → l ≢ m → HasNames signals
+three_names signals a b c k l m e p q r kl km lm =
+    let some : (d : SignalDecl) (n : List ℕ) → d.name ≡ Some n → IsSome d.name = λ d n h. subst IsSome (sym h) refl in
+    let apart : (d f : SignalDecl) (n o : List ℕ) → d.name ≡ Some n → f.name ≡ Some o → n ≢ o → d.name ≢ f.name = λ d f n o h i other same. other (let s : Some n ≡ Some o = sym h ∙ same ∙ i in cc) in
+    subst HasNames (sym e) (has_names (a ∷ b ∷ c ∷ []) 3 (lit≤ tt) tt (record {
+      named = (some a k p, (some b l q, (some c m r, tt)));
+      differ = ((apart a b k l p q kl, (apart a c k m p r km, tt)), ((apart b c l m q r lm, tt), (tt, tt)));
+    }))

@@ -13,7 +13,7 @@ use std::collections::HashMap;
 
 /// Declarations, and the number of each signal of the interface by its name.
 #[derive(Drop)]
-pub struct Interface<'a> {
+pub struct NameIndex<'a> {
     pub signals: &'a [SignalDecl],
     pub numbers: HashMap<&'a [u8], u32>,
 }
@@ -58,14 +58,14 @@ fn number_names(alloc: Global, signals: &[SignalDecl]) -> Result<HashMap<&[u8], 
     Ok(numbers)
 }
 
-impl<'a> Interface<'a> {
-    pub fn new(alloc: Global, signals: &'a [SignalDecl]) -> Result<Interface<'a>, NoMemory>
+impl<'a> NameIndex<'a> {
+    pub fn new(alloc: Global, signals: &'a [SignalDecl]) -> Result<NameIndex<'a>, NoMemory>
         requires { HasNames signals.now }
         ensures signals { IfOk result (λ i. i.signals.now ≡ signals.now) }
         ensures index { IfOk result (λ i. IsIndex signals.now i.numbers) }
         ensures words { OnOk result (HasWords signals.now) }
     {
-        Ok(Interface {
+        Ok(NameIndex {
             signals,
             numbers: number_names(alloc, signals)?,
         })
@@ -73,7 +73,7 @@ impl<'a> Interface<'a> {
 
     /// The input of this name.
     pub fn find_input(&self, name: &[u8]) -> Option<u32>
-        requires index { IsIndex self.now.signals.now self.now.numbers }
+        requires indexed { IsIndex self.now.signals.now self.now.numbers }
         requires names { HasWords self.now.signals.now }
         ensures { MatchOption result (LacksInput self.now.signals.now name.now)
             (λ s. (is_input_at self.now.signals.now s ≡ true) × (name_at self.now.signals.now s ≡ name.now)) }

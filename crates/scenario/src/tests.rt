@@ -1,4 +1,4 @@
-ghost use Rattle.std.specs.Prelude.{◌≡◌, ◌<◌, ◌^◌, IfOk};
+ghost use Rattle.std.specs.Prelude.{◌≡◌, IfOk};
 ghost use Rattle.scenario.specs.Interface.{HasNames};
 
 use crate::line::{Line, ScenarioFault};
@@ -13,27 +13,20 @@ use std::alloc::Global;
 use std::process::Abort;
 use std::test::Fail;
 
-fn declare(name: Name, dir: Dir, kind: Kind, first: Value) -> SignalDecl
-    ensures declared { result ≡ record { name = Some name; dir = dir; kind = kind; first = first; combine = None; pos = record { 0 = 0 } } }
+fn pure(alloc: Global, name: &str, dir: Dir) -> Result<SignalDecl, Fail>
+    ensures { IfOk result (λ d. d.name ≡ Some name.now) }
 {
-    SignalDecl {
-        name: Some(name),
+    Ok(SignalDecl {
+        name: Some(Name::read(alloc, name)?),
         dir,
-        kind,
-        first,
+        kind: Kind::Pure,
+        first: Value::Unit,
         combine: None,
         pos: Pos(0),
-    }
+    })
 }
 
-fn pure(alloc: Global, name: &str, dir: Dir) -> Result<SignalDecl, Fail>
-    ensures name { IfOk result (λ d. d.name ≡ Some name.now) }
-    ensures dir { IfOk result (λ d. d.dir ≡ dir) }
-{
-    Ok(declare(Name::read(alloc, name)?, dir, Kind::Pure, Value::Unit))
-}
-
-/// `in A`, `in Long`, `out O`, `out V`.
+/// `in A`, `in Long`, `out O`.
 fn signals(alloc: Global) -> Result<Vec<SignalDecl>, Fail>
     ensures { IfOk result (λ v. HasNames v.items) }
 {
@@ -41,7 +34,6 @@ fn signals(alloc: Global) -> Result<Vec<SignalDecl>, Fail>
     signals.push(pure(alloc, "A", Dir::Input)?)?;
     signals.push(pure(alloc, "Long", Dir::Input)?)?;
     signals.push(pure(alloc, "O", Dir::Output)?)?;
-    signals.push(pure(alloc, "V", Dir::Output)?)?;
     Ok(signals)
 }
 
@@ -104,22 +96,29 @@ fn refuses_lines(rt: HostRuntime) -> Result<(), Fail> {
         let text = format!(in alloc; "react\nreact A\n{line}\nreact\n")?;
         assert_eq!(rt; refused(alloc, text.as_bytes())?, 3, "{line}");
     }
-    assert_eq!(rt; refused(alloc, b"\n")?, 1);
-    assert_eq!(rt; refused(alloc, b"react\n\n")?, 2);
-    assert_eq!(rt; refused(alloc, b"react A\xff\n")?, 1);
-    assert_eq!(rt; refused(alloc, b"react A\r\nreact  A")?, 1);
-    assert_eq!(rt; refused(alloc, b"react A\nreact Long")?, 0);
     Ok(())
 }
 
-fn prints(alloc: Global, reply: &Reply, number: u64, want: &[u8]) -> Result<Option<u64>, Fail>
-    requires { number < 2 ^ 63 }
-{
+#[test]
+fn refuses_at_the_end(rt: HostRuntime) -> Result<(), Fail> {
+    let alloc = rt.alloc();
+    for (text, line) in [
+        ("\n", 1),
+        ("react\n\n", 2),
+        ("react A\r\nreact  A", 1),
+        ("react A\nreact Long", 0),
+    ] {
+        assert_eq!(rt; refused(alloc, text.as_bytes())?, line, "{text}");
+    }
+    Ok(())
+}
+
+/// The print of a reply with the number 9, where it goes on with that number or the next.
+fn prints(alloc: Global, reply: &Reply, want: &str, next: u64) -> Result<bool, Fail> {
     let signals = signals(alloc)?;
-    let mut out = Vec::from_slice(alloc, b"before\n")?;
-    let next = print_reply(reply, number, &signals, &mut out)?;
-    let printed = out.as_slice().strip_prefix(b"before\n");
-    Ok((printed == Some(want)).then_some(next))
+    let mut out = Vec::from_slice(alloc, b"8:\n")?;
+    let number = print_reply(reply, 9, &signals, &mut out)?;
+    Ok(number == next && out.strip_prefix(b"8:\n") == Some(want.as_bytes()))
 }
 
 fn done(outs: Vec<(u32, Value)>, ended: bool) -> Reply {
@@ -130,56 +129,55 @@ fn done(outs: Vec<(u32, Value)>, ended: bool) -> Reply {
 }
 
 #[test]
-fn prints_done(rt: HostRuntime) -> Result<(), Fail> {
+fn prints_outputs(rt: HostRuntime) -> Result<(), Fail> {
     let alloc = rt.alloc();
     let none = done(Vec::new(alloc), false);
-    assert_eq!(rt; prints(alloc, &none, 1, b"1:\n")?, Some(2));
-    let one = done(vec![in alloc; (2, Value::Unit)]?, true);
-    assert_eq!(rt; prints(alloc, &one, 9, b"9: O done\n")?, Some(10));
-    let number = done(
-        vec![in alloc; (2, Value::Unit), (3, Value::Int(i64::MIN))]?,
-        false,
-    );
-    assert_eq!(rt;
-        prints(alloc, &number, 10, b"10: O V=-9223372036854775808\n")?,
-        Some(11)
-    );
-    let truth = done(vec![in alloc; (3, Value::Bool(true))]?, true);
-    assert_eq!(rt;
-        prints(alloc, &truth, 4294967296, b"4294967296: V=true done\n")?,
-        Some(4294967297)
-    );
-    let text = Text::read(alloc, b"a\"\\\n\tb")?;
-    let quoted = done(vec![in alloc; (3, Value::Text(text))]?, false);
-    assert_eq!(rt;
-        prints(alloc, &quoted, 1, b"1: V=\"a\\\"\\\\\\n\\tb\"\n")?,
-        Some(2)
+    assert!(rt; prints(alloc, &none, "9:\n", 10)?);
+    let outs = vec![in alloc;
+        (2, Value::Unit),
+        (1, Value::Int(i64::MIN)),
+        (0, Value::Bool(true)),
+    ]?;
+    let ended = done(outs, true);
+    assert!(rt;
+        prints(
+            alloc,
+            &ended,
+            "9: O Long=-9223372036854775808 A=true done\n",
+            10
+        )?
     );
     Ok(())
 }
 
 #[test]
-fn prints_refusals(rt: HostRuntime) -> Result<(), Fail> {
+fn prints_text(rt: HostRuntime) -> Result<(), Fail> {
+    let alloc = rt.alloc();
+    let text = Text::read(alloc, b"a\"\\\n\tb")?;
+    let quoted = done(vec![in alloc; (2, Value::Text(text))]?, false);
+    assert!(rt; prints(alloc, &quoted, "9: O=\"a\\\"\\\\\\n\\tb\"\n", 10)?);
+    Ok(())
+}
+
+#[test]
+fn prints_names(rt: HostRuntime) -> Result<(), Fail> {
     let alloc = rt.alloc();
     let names = vec![in alloc; Name::read(alloc, "S")?, Name::read(alloc, "T")?]?;
     let causality = Reply::Causality(Names::from_vec(names));
-    assert_eq!(rt;
-        prints(alloc, &causality, 3, b"-: causality S T\n")?,
-        Some(3)
-    );
+    assert!(rt; prints(alloc, &causality, "-: causality S T\n", 9)?);
     let multiple = Reply::Multiple(Name::read(alloc, "S")?);
-    assert_eq!(rt; prints(alloc, &multiple, 1, b"-: multiple S\n")?, Some(1));
+    assert!(rt; prints(alloc, &multiple, "-: multiple S\n", 9)?);
+    Ok(())
+}
+
+#[test]
+fn prints_faults(rt: HostRuntime) -> Result<(), Fail> {
+    let alloc = rt.alloc();
     let divide = Reply::Fault(Pos(44), FaultKind::Divide);
-    assert_eq!(rt;
-        prints(alloc, &divide, 2, b"-: fault 44 divide\n")?,
-        Some(2)
-    );
+    assert!(rt; prints(alloc, &divide, "-: fault 44 divide\n", 9)?);
     let overflow = Reply::Fault(Pos(0), FaultKind::Overflow);
-    assert_eq!(rt;
-        prints(alloc, &overflow, 2, b"-: fault 0 overflow\n")?,
-        Some(2)
-    );
+    assert!(rt; prints(alloc, &overflow, "-: fault 0 overflow\n", 9)?);
     let long = Reply::Fault(Pos(7), FaultKind::TextLong);
-    assert_eq!(rt; prints(alloc, &long, 2, b"-: fault 7 textlong\n")?, Some(2));
+    assert!(rt; prints(alloc, &long, "-: fault 7 textlong\n", 9)?);
     Ok(())
 }
