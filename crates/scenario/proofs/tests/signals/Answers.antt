@@ -1,17 +1,20 @@
-use Rattle.std.proofs.Common.{◌≡◌, ◌≢◌, ◌∷◌, ◌++◌, [], ℕ, List, ap, ◌∙◌}
+use Rattle.std.proofs.Common.{◌≡◌, ◌≢◌, ◌<◌, ◌∷◌, ◌++◌, [], ℕ, List, get_or, lit<, arith, ap, ◌∙◌}
 use Rattle.std.specs.Prelude.{codes}
 use Rattle.hh_term.specs.declared.program.SignalDecl.{SignalDecl}
 use Rattle.scenario.proofs.Programs.{three_names}
 use Rattle.scenario.proofs.tests.signals.Goals as goal
 
+apart_at : (xs ys : List ℕ) → get_or xs 0 0 < get_or ys 0 0 → xs ≢ ys
+apart_at xs ys less = λ e. let same : get_or xs 0 0 ≡ get_or ys 0 0 = ap (λ zs. get_or zs 0 0) e in omega arith
+
 short_long : codes "A" ≢ codes "Long"
-short_long e = cc
+short_long = apart_at (codes "A") (codes "Long") (lit< tt)
 
 short_other : codes "A" ≢ codes "O"
-short_other e = cc
+short_other = apart_at (codes "A") (codes "O") (lit< tt)
 
 long_other : codes "Long" ≢ codes "O"
-long_other e = cc
+long_other = apart_at (codes "Long") (codes "O") (lit< tt)
 
 pub returns : goal.returns
 returns c =
