@@ -2,7 +2,7 @@
 ghost use Rattle.std.specs.Prelude.{◌≡◌, ◌+◌, ◌<◌, ◌≤◌, ◌^◌, ◌⊎◌, ℕ, true, List, All, length, map, IfOk, OnOk, IfErr};
 ghost use Rattle.scenario.specs.Cut.{StartsWith};
 ghost use Rattle.scenario.specs.Index.{IsIndex};
-ghost use Rattle.scenario.specs.Interface.{HasNames};
+ghost use Rattle.scenario.specs.Interface.{HasNames, HasWords};
 ghost use Rattle.scenario.specs.Reader.{LacksNames, TakesName};
 ghost use Rattle.scenario.specs.Scenario.{AreInputs, IsFirstLine, IsFirstRefused, IsNoLine, IsRead, IsScenario, inputs_of_line, spaced_names, spelling};
 
@@ -27,7 +27,7 @@ fn split_line(text: &[u8]) -> (&[u8], &[u8])
 /// the last line that named it.
 fn take_name(interface: &Interface, name: &[u8], number: u64, noted: &mut [u64]) -> Option<u32>
     requires index { IsIndex interface.now.signals.now interface.now.numbers }
-    requires names { HasNames interface.now.signals.now }
+    requires names { HasWords interface.now.signals.now }
     requires noted_each { length noted.old ≡ length interface.now.signals.now }
     ensures { TakesName interface.now.signals.now name.now number noted.old result noted.new }
 {
@@ -48,7 +48,7 @@ fn read_names(
     noted: &mut [u64],
 ) -> Result<Signals, ScenarioFault>
     requires index { IsIndex interface.now.signals.now interface.now.numbers }
-    requires names { HasNames interface.now.signals.now }
+    requires names { HasWords interface.now.signals.now }
     requires noted_each { length noted.old ≡ length interface.now.signals.now }
     requires noted_before { All (λ n. n < number) noted.old }
     requires spaced { StartsWith 32 names.now }
@@ -79,7 +79,7 @@ fn read_line(
     noted: &mut [u64],
 ) -> Result<Signals, ScenarioFault>
     requires index { IsIndex interface.now.signals.now interface.now.numbers }
-    requires names { HasNames interface.now.signals.now }
+    requires names { HasWords interface.now.signals.now }
     requires noted_each { length noted.old ≡ length interface.now.signals.now }
     requires noted_before { All (λ n. n < number) noted.old }
     ensures inputs { IfOk result (AreInputs interface.now.signals.now) }

@@ -13,7 +13,7 @@ returns-in_err-inputs-clause-only c = λ reactions reading.
     let some : far.rest.now ≢ [] = something_left far.rest.now c.lines-test.ensures in
     let why = fault_at_line c.in_ok-interface.interface.signals.now signals c.args.text.now (map inputs_of_line far.lines.items) far.number far.rest.now far.noted c.split_line.result.0.now c.split_line.result.1.now c.in_err-inputs.field-0.0 c.in_ok-interface.ensures.signals some c.split_line.ensures far.invariant c.in_err-inputs.ensures.refused in
     let p = err_from_is_err_and c.from_residual-in_err-inputs.result c.from_residual-in_err-inputs.ensures.1 in
-    rw p.1 (p.2 ∙ is_read_fault signals c.args.text.now reactions (far.number + 1) c.in_err-inputs.field-0.0 c.requires reading why)
+    rw p.1 (p.2 ∙ is_read_fault signals c.args.text.now reactions (far.number + 1) c.in_err-inputs.field-0.0 c.in_ok-interface.ensures.words reading why)
 
 pub lines-preserved : goal.lines-preserved
 lines-preserved c =
@@ -31,4 +31,4 @@ returns-clause-found c = all_lines c.args.signals.now c.args.text.now (map input
 
 pub returns-clause-only : goal.returns-clause-only
 returns-clause-only c = λ reactions reading.
-    one_reading c.args.signals.now c.args.text.now (map inputs_of_line c.lines.lines.items) reactions c.requires (all_lines c.args.signals.now c.args.text.now (map inputs_of_line c.lines.lines.items) c.lines.number c.lines.rest.now c.lines.noted (nothing_left c.lines.rest.now c.lines-test.ensures) c.lines.invariant) reading
+    one_reading c.args.signals.now c.args.text.now (map inputs_of_line c.lines.lines.items) reactions c.in_ok-interface.ensures.words (all_lines c.args.signals.now c.args.text.now (map inputs_of_line c.lines.lines.items) c.lines.number c.lines.rest.now c.lines.noted (nothing_left c.lines.rest.now c.lines-test.ensures) c.lines.invariant) reading
