@@ -1,7 +1,6 @@
 -- The lines of a text: whose spellings they are, and that a text has no other reading.
-use Rattle.std.proofs.Common.{◌≡◌, ◌≢◌, ◌<◌, ◌≤◌, ◌+◌, ◌⊎◌, ℕ, true, false, not, eqb, List, [], ◌∷◌, ◌++◌, length, map, get_or, refl, sym, ap, ◌∙◌, subst, arith, rules, inl, inr, ⊎_elim, append_assoc, append-nil}
-use Rattle.std.specs.Prelude.{All, AllPairs, Contains, codes}
-use Rattle.std.specs.List.{flat_map}
+use Rattle.std.proofs.Common.{◌≡◌, ◌≢◌, ◌≤◌, ◌+◌, ◌⊎◌, ℕ, true, false, not, eqb, List, [], ◌∷◌, ◌++◌, length, map, refl, sym, ap, ◌∙◌, subst, arith, inl, inr, ⊎_elim, append_assoc, append-nil}
+use Rattle.std.specs.Prelude.{All, codes}
 use Rattle.std.proofs.lemmas.List.{length-append, append_cancel_left, nil_from_length}
 use Rattle.std.proofs.lemmas.Bool.Decides.{Decides-eqb}
 use Rattle.std.proofs.lemmas.Slice.Eq.{bytes_eq-Decides}
@@ -11,8 +10,8 @@ use Rattle.std.proofs.lemmas.List.Elements.{All-head, All-tail, All-nil, All-con
 use Rattle.hh_term.specs.declared.program.SignalDecl.{SignalDecl}
 use Rattle.reactor.specs.Core.{name_at}
 use Rattle.scenario.specs.Cut.{StartsWith, IsCut}
-use Rattle.scenario.specs.Interface.{is_input_at, is_interface_at, HasWords}
-use Rattle.scenario.specs.Scenario.{AreInputs, AreLines, IsScenario, IsFirstLine, StopsBehind, IsFirstRefused, IsNoLine, spaced_names, spelling, ended}
+use Rattle.scenario.specs.Interface.{is_input_at, HasWords}
+use Rattle.scenario.specs.Scenario.{AreInputs, AreLines, IsScenario, IsFirstLine, IsFirstRefused, IsNoLine, spaced_names, spelling, ended}
 use Rattle.scenario.specs.declared.line.ScenarioFault.{ScenarioFault}
 use Rattle.scenario.specs.declared.line.ScenarioFault.TheVariants.{Refused, NoMemory}
 use Rattle.scenario.specs.Reader.{LinesSoFar}

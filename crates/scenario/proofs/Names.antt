@@ -1,17 +1,16 @@
 -- Names with a space before each: whose names they are, and that no others' are the same.
-use Rattle.std.proofs.Common.{◌≡◌, ◌≢◌, ◌<◌, ◌≤◌, ◌+◌, ◌⊎◌, ℕ, true, List, [], ◌∷◌, ◌++◌, length, get_or, set, refl, sym, ap, ◌∙◌, subst, arith, rules, inl, inr, ⊎_elim, append_assoc, append-nil, get_or-set_same, get_or-set_other}
+use Rattle.std.proofs.Common.{◌≡◌, ◌≢◌, ◌<◌, ◌≤◌, ℕ, true, List, [], ◌∷◌, ◌++◌, length, get_or, set, refl, sym, ap, ◌∙◌, subst, arith, ⊎_elim, append_assoc, append-nil, get_or-set_same, get_or-set_other}
 use Rattle.std.specs.Prelude.{All, AllPairs, Contains}
-use Rattle.std.specs.List.{flat_map}
-use Rattle.std.proofs.lemmas.List.{get_or_at, flat_map_more, length-set, length-append, get_or_append_left}
+use Rattle.std.proofs.lemmas.List.{get_or_at, length-set, length-append, get_or_append_left}
 use Rattle.std.proofs.lemmas.List.Concat.{flat_map-append}
-use Rattle.std.proofs.lemmas.List.Elements.{All-head, All-tail, All-nil, All-cons, All-append, All-push, All-set, All-get_or, Contains-append_left, Contains-push}
+use Rattle.std.proofs.lemmas.List.Elements.{All-head, All-tail, All-nil, All-push, All-set, Contains-append_left, Contains-push}
 use Rattle.std.proofs.lemmas.Bool.{cases_eq}
 use Rattle.std.proofs.lemmas.List.Quantifiers.{all_pairs_push}
 use Rattle.hh_term.specs.declared.program.SignalDecl.{SignalDecl}
 use Rattle.reactor.specs.Core.{name_at}
 use Rattle.scenario.specs.Cut.{StartsWith, IsCut}
-use Rattle.scenario.specs.Interface.{is_input_at, is_interface_at, HasWords, LacksInput}
-use Rattle.scenario.specs.Scenario.{AreInputs, spaced_names}
+use Rattle.scenario.specs.Interface.{is_input_at, HasWords, LacksInput}
+use Rattle.scenario.specs.Scenario.{spaced_names}
 use Rattle.scenario.specs.Reader.{IsNamed, IsRefusedName, IsTakenName, LacksNames, NamesSoFar}
 use Rattle.scenario.proofs.Cuts.{same_cut}
 use Rattle.scenario.proofs.Numbering.{input_interface}

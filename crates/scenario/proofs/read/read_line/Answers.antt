@@ -1,4 +1,4 @@
-use Rattle.std.proofs.Common.{◌≡◌, ◌≢◌, refl, inr, sym, ◌∙◌}
+use Rattle.std.proofs.Common.{◌≢◌, refl, inr, sym, ◌∙◌}
 use Rattle.std.specs.Prelude.{codes}
 use Rattle.scenario.proofs.Lines.{no_word, not_word}
 use Rattle.scenario.proofs.read.read_line.Goals as goal

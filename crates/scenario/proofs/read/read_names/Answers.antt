@@ -1,4 +1,4 @@
-use Rattle.std.proofs.Common.{◌≡◌, ◌∷◌, refl, inr, sym}
+use Rattle.std.proofs.Common.{◌≡◌, ◌∷◌, refl, inr}
 use Rattle.scenario.proofs.Names.{step, refuse}
 use Rattle.scenario.proofs.read.read_names.Goals as goal
 
