@@ -1,8 +1,8 @@
 -- A cut of bytes is the one cut.
-use Rattle.std.proofs.Common.{◌≡◌, ◌≢◌, ◌<◌, ◌+◌, ℕ, List, [], ◌∷◌, ◌++◌, length, refl, sym, ap, ◌∙◌, subst, arith, rules}
+use Rattle.std.proofs.Common.{◌≡◌, ◌≢◌, ℕ, List, [], ◌∷◌, ◌++◌, refl, sym, ◌∙◌}
 use Rattle.std.specs.List.{All}
 use Rattle.std.proofs.lemmas.List.Elements.{All-head, All-tail}
-use Rattle.scenario.specs.Cut.{StartsWith, IsCut}
+use Rattle.scenario.specs.Cut.{StartsWith}
 
 pub same_cut : (byte : ℕ) (a b x y : List ℕ) → All (λ c. c ≢ byte) a → All (λ c. c ≢ byte) b → StartsWith byte x → StartsWith byte y → a ++ x ≡ b ++ y → (a ≡ b) × (x ≡ y)
 same_cut byte [] [] x y la lb sx sy e = (refl, e)

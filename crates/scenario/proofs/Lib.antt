@@ -3,3 +3,5 @@ pub mod Lines
 pub mod Names
 pub mod Numbering
 pub mod Printing
+pub mod Programs
+pub mod Words

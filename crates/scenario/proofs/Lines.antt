@@ -1,7 +1,6 @@
 -- The lines of a text: whose spellings they are, and that a text has no other reading.
-use Rattle.std.proofs.Common.{◌≡◌, ◌≢◌, ◌<◌, ◌≤◌, ◌+◌, ◌⊎◌, ℕ, true, false, not, eqb, List, [], ◌∷◌, ◌++◌, length, map, get_or, refl, sym, ap, ◌∙◌, subst, arith, rules, inl, inr, ⊎_elim, append_assoc, append-nil}
-use Rattle.std.specs.Prelude.{All, AllPairs, Contains, codes}
-use Rattle.std.specs.List.{flat_map}
+use Rattle.std.proofs.Common.{◌≡◌, ◌≢◌, ◌≤◌, ◌+◌, ◌⊎◌, ℕ, true, false, not, eqb, List, [], ◌∷◌, ◌++◌, length, map, refl, sym, ap, ◌∙◌, subst, arith, inl, inr, ⊎_elim, append_assoc, append-nil}
+use Rattle.std.specs.Prelude.{All, codes}
 use Rattle.std.proofs.lemmas.List.{length-append, append_cancel_left, nil_from_length}
 use Rattle.std.proofs.lemmas.Bool.Decides.{Decides-eqb}
 use Rattle.std.proofs.lemmas.Slice.Eq.{bytes_eq-Decides}
@@ -11,8 +10,8 @@ use Rattle.std.proofs.lemmas.List.Elements.{All-head, All-tail, All-nil, All-con
 use Rattle.hh_term.specs.declared.program.SignalDecl.{SignalDecl}
 use Rattle.reactor.specs.Core.{name_at}
 use Rattle.scenario.specs.Cut.{StartsWith, IsCut}
-use Rattle.scenario.specs.Interface.{is_input_at, is_interface_at, HasNames}
-use Rattle.scenario.specs.Scenario.{AreInputs, AreLines, IsScenario, IsFirstLine, StopsBehind, IsFirstRefused, IsNoLine, spaced_names, spelling, ended}
+use Rattle.scenario.specs.Interface.{is_input_at, HasWords}
+use Rattle.scenario.specs.Scenario.{AreInputs, AreLines, IsScenario, IsFirstLine, IsFirstRefused, IsNoLine, spaced_names, spelling, ended}
 use Rattle.scenario.specs.declared.line.ScenarioFault.{ScenarioFault}
 use Rattle.scenario.specs.declared.line.ScenarioFault.TheVariants.{Refused, NoMemory}
 use Rattle.scenario.specs.Reader.{LinesSoFar}
@@ -42,7 +41,7 @@ space_no_end : (b : ℕ) → b ≡ 32 → b ≢ 10
 space_no_end b space = λ e. omega arith
 
 -- a line has no LF
-spaced_lacks_end : (signals : List SignalDecl) → HasNames signals → (inputs : List ℕ) → All (λ s. is_input_at signals s ≡ true) inputs → All (λ b. b ≢ 10) (spaced_names signals inputs)
+spaced_lacks_end : (signals : List SignalDecl) → HasWords signals → (inputs : List ℕ) → All (λ s. is_input_at signals s ≡ true) inputs → All (λ b. b ≢ 10) (spaced_names signals inputs)
 spaced_lacks_end signals names [] given = All-nil (λ b. b ≢ 10)
 spaced_lacks_end signals names (s ∷ inputs) given =
     let P : ℕ → Type 0 = λ t. is_input_at signals t ≡ true in
@@ -50,7 +49,7 @@ spaced_lacks_end signals names (s ∷ inputs) given =
     let name = (names.words s (input_interface signals s (All-head P s inputs given))).no_line_end in
     All-cons (λ b. b ≢ 10) 32 (name_at signals s ++ spaced_names signals inputs) space (All-append (λ b. b ≢ 10) (name_at signals s) (spaced_names signals inputs) name (spaced_lacks_end signals names inputs (All-tail P s inputs given)))
 
-pub spelling_lacks_end : (signals : List SignalDecl) → HasNames signals → (inputs : List ℕ) → AreInputs signals inputs → All (λ b. b ≢ 10) (spelling signals inputs)
+pub spelling_lacks_end : (signals : List SignalDecl) → HasWords signals → (inputs : List ℕ) → AreInputs signals inputs → All (λ b. b ≢ 10) (spelling signals inputs)
 spelling_lacks_end signals names inputs are = All-append (λ b. b ≢ 10) (codes "react") (spaced_names signals inputs) react_lacks_end (spaced_lacks_end signals names inputs are.given)
 
 spaced_none : (signals : List SignalDecl) (inputs : List ℕ) → [] ≡ spaced_names signals inputs → inputs ≡ []
@@ -58,7 +57,7 @@ spaced_none signals [] e = refl
 spaced_none signals (s ∷ inputs) e = absurd cc
 
 -- a spelling is the spelling of the same inputs
-pub same_inputs : (signals : List SignalDecl) → HasNames signals → (a b : List ℕ) → AreInputs signals a → AreInputs signals b → spelling signals a ≡ spelling signals b → a ≡ b
+pub same_inputs : (signals : List SignalDecl) → HasWords signals → (a b : List ℕ) → AreInputs signals a → AreInputs signals b → spelling signals a ≡ spelling signals b → a ≡ b
 same_inputs signals names a b are_a are_b e =
     let tails = append_cancel_left (codes "react") (spaced_names signals a) (spaced_names signals b) e in
     let parts = follow signals names a b [] are_a.given are_b.given tt (append-nil (spaced_names signals a) ∙ tails) in
@@ -88,7 +87,7 @@ only_line text line rest other first lacks e =
     first.ends
 
 -- the first line of a reading is the first line of the text, and the others are those of the rest
-next : (signals : List SignalDecl) → HasNames signals → (y : List ℕ) (ys : List (List ℕ)) (text line rest : List ℕ) → AreInputs signals y → AreLines (spelling signals y ∷ map (spelling signals) ys) text → IsFirstLine text line rest → (line ≡ spelling signals y) × AreLines (map (spelling signals) ys) rest
+next : (signals : List SignalDecl) → HasWords signals → (y : List ℕ) (ys : List (List ℕ)) (text line rest : List ℕ) → AreInputs signals y → AreLines (spelling signals y ∷ map (spelling signals) ys) text → IsFirstLine text line rest → (line ≡ spelling signals y) × AreLines (map (spelling signals) ys) rest
 next signals names y ys text line rest are lines first =
     let lacks = spelling_lacks_end signals names y are in
     ⊎_elim
@@ -101,7 +100,7 @@ next signals names y ys text line rest are lines first =
     lines
 
 -- the first line of a reading
-first_of : (signals : List SignalDecl) → HasNames signals → (x : List ℕ) (xs : List (List ℕ)) (text : List ℕ) → AreInputs signals x → AreLines (spelling signals x ∷ map (spelling signals) xs) text → (rest : List ℕ) × IsFirstLine text (spelling signals x) rest × AreLines (map (spelling signals) xs) rest
+first_of : (signals : List SignalDecl) → HasWords signals → (x : List ℕ) (xs : List (List ℕ)) (text : List ℕ) → AreInputs signals x → AreLines (spelling signals x ∷ map (spelling signals) xs) text → (rest : List ℕ) × IsFirstLine text (spelling signals x) rest × AreLines (map (spelling signals) xs) rest
 first_of signals names x xs text are lines =
     let lacks = spelling_lacks_end signals names x are in
     ⊎_elim
@@ -120,7 +119,7 @@ no_lines signals y ys text none lines =
     lines
 
 -- a text has one reading
-readings : (signals : List SignalDecl) → HasNames signals → (a b : List (List ℕ)) (text : List ℕ) → All (AreInputs signals) a → All (AreInputs signals) b → AreLines (map (spelling signals) a) text → AreLines (map (spelling signals) b) text → a ≡ b
+readings : (signals : List SignalDecl) → HasWords signals → (a b : List (List ℕ)) (text : List ℕ) → All (AreInputs signals) a → All (AreInputs signals) b → AreLines (map (spelling signals) a) text → AreLines (map (spelling signals) b) text → a ≡ b
 readings signals names [] [] text are_a are_b la lb = refl
 readings signals names [] (y ∷ ys) text are_a are_b la lb = absurd (no_lines signals y ys text la lb)
 readings signals names (x ∷ xs) [] text are_a are_b la lb = absurd (no_lines signals x xs text lb la)
@@ -134,11 +133,11 @@ readings signals names (x ∷ xs) (y ∷ ys) text are_a are_b la lb =
     let tails : xs ≡ ys = readings signals names xs ys first.0 (All-tail P x xs are_a) (All-tail P y ys are_b) first.2 others.1 in
     cc
 
-pub one_reading : (signals : List SignalDecl) (text : List ℕ) (a b : List (List ℕ)) → HasNames signals → IsScenario signals text a → IsScenario signals text b → a ≡ b
+pub one_reading : (signals : List SignalDecl) (text : List ℕ) (a b : List (List ℕ)) → HasWords signals → IsScenario signals text a → IsScenario signals text b → a ≡ b
 one_reading signals text a b names la lb = readings signals names a b text la.inputs lb.inputs la.lines lb.lines
 
 -- what stands behind the lines of some reactions is read by the others
-left : (signals : List SignalDecl) → HasNames signals → (before b : List (List ℕ)) (text behind : List ℕ) → All (AreInputs signals) before → All (AreInputs signals) b → text ≡ ended signals before ++ behind → AreLines (map (spelling signals) b) text → (more : List (List ℕ)) × All (AreInputs signals) more × AreLines (map (spelling signals) more) behind
+left : (signals : List SignalDecl) → HasWords signals → (before b : List (List ℕ)) (text behind : List ℕ) → All (AreInputs signals) before → All (AreInputs signals) b → text ≡ ended signals before ++ behind → AreLines (map (spelling signals) b) text → (more : List (List ℕ)) × All (AreInputs signals) more × AreLines (map (spelling signals) more) behind
 left signals names [] b text behind are are_b e lines = (b, are_b, subst (AreLines (map (spelling signals) b)) e lines)
 left signals names (x ∷ xs) [] text behind are are_b e lines = absurd cc
 left signals names (x ∷ xs) (y ∷ ys) text behind are are_b e lines =
@@ -150,13 +149,13 @@ left signals names (x ∷ xs) (y ∷ ys) text behind are are_b e lines =
     left signals names xs ys (ended signals xs ++ behind) behind (All-tail P x xs are) (All-tail P y ys are_b) refl others.1
 
 -- where a line is refused, the text has no reading
-refused_behind : (signals : List SignalDecl) → HasNames signals → (more : List (List ℕ)) (behind line rest : List ℕ) → All (AreInputs signals) more → AreLines (map (spelling signals) more) behind → behind ≢ [] → IsFirstLine behind line rest → IsNoLine signals line → ⊥
+refused_behind : (signals : List SignalDecl) → HasWords signals → (more : List (List ℕ)) (behind line rest : List ℕ) → All (AreInputs signals) more → AreLines (map (spelling signals) more) behind → behind ≢ [] → IsFirstLine behind line rest → IsNoLine signals line → ⊥
 refused_behind signals names [] behind line rest are lines some first refused = some lines
 refused_behind signals names (y ∷ ys) behind line rest are lines some first refused =
     let y_are = All-head (AreInputs signals) y ys are in
     refused y y_are (next signals names y ys behind line rest y_are lines first).0
 
-pub no_reading : (signals : List SignalDecl) (text : List ℕ) (n : ℕ) (b : List (List ℕ)) → HasNames signals → IsFirstRefused signals text n → IsScenario signals text b → ⊥
+pub no_reading : (signals : List SignalDecl) (text : List ℕ) (n : ℕ) (b : List (List ℕ)) → HasWords signals → IsFirstRefused signals text n → IsScenario signals text b → ⊥
 no_reading signals text n b names refused reading =
     let stop = refused.2 in
     let others = left signals names refused.0 b text stop.behind stop.inputs reading.inputs stop.text_is reading.lines in
@@ -258,7 +257,7 @@ something_left [] h = absurd cc
 something_left (c ∷ rest) h = λ e. cc
 
 -- a fault of a text that has a reading is want of memory
-pub is_read_fault : (signals : List SignalDecl) (text : List ℕ) (reactions : List (List ℕ)) (n : ℕ) (fault : ScenarioFault) → HasNames signals → IsScenario signals text reactions → (fault ≡ NoMemory) ⊎ ((fault ≡ Refused n) × IsFirstRefused signals text n) → fault ≡ NoMemory
+pub is_read_fault : (signals : List SignalDecl) (text : List ℕ) (reactions : List (List ℕ)) (n : ℕ) (fault : ScenarioFault) → HasWords signals → IsScenario signals text reactions → (fault ≡ NoMemory) ⊎ ((fault ≡ Refused n) × IsFirstRefused signals text n) → fault ≡ NoMemory
 is_read_fault signals text reactions n fault names reading why = ⊎_elim (λ (e : fault ≡ NoMemory). e) (λ (refused : (fault ≡ Refused n) × IsFirstRefused signals text n). absurd (no_reading signals text n reactions names refused.1 reading)) why
 
 -- what the fault of a line says of the text

@@ -1,17 +1,16 @@
 -- Names with a space before each: whose names they are, and that no others' are the same.
-use Rattle.std.proofs.Common.{◌≡◌, ◌≢◌, ◌<◌, ◌≤◌, ◌+◌, ◌⊎◌, ℕ, true, List, [], ◌∷◌, ◌++◌, length, get_or, set, refl, sym, ap, ◌∙◌, subst, arith, rules, inl, inr, ⊎_elim, append_assoc, append-nil, get_or-set_same, get_or-set_other}
+use Rattle.std.proofs.Common.{◌≡◌, ◌≢◌, ◌<◌, ◌≤◌, ℕ, true, List, [], ◌∷◌, ◌++◌, length, get_or, set, refl, sym, ap, ◌∙◌, subst, arith, ⊎_elim, append_assoc, append-nil, get_or-set_same, get_or-set_other}
 use Rattle.std.specs.Prelude.{All, AllPairs, Contains}
-use Rattle.std.specs.List.{flat_map}
-use Rattle.std.proofs.lemmas.List.{get_or_at, flat_map_more, length-set, length-append, get_or_append_left}
+use Rattle.std.proofs.lemmas.List.{get_or_at, length-set, length-append, get_or_append_left}
 use Rattle.std.proofs.lemmas.List.Concat.{flat_map-append}
-use Rattle.std.proofs.lemmas.List.Elements.{All-head, All-tail, All-nil, All-cons, All-append, All-push, All-set, All-get_or, Contains-append_left, Contains-push}
+use Rattle.std.proofs.lemmas.List.Elements.{All-head, All-tail, All-nil, All-push, All-set, Contains-append_left, Contains-push}
 use Rattle.std.proofs.lemmas.Bool.{cases_eq}
 use Rattle.std.proofs.lemmas.List.Quantifiers.{all_pairs_push}
 use Rattle.hh_term.specs.declared.program.SignalDecl.{SignalDecl}
 use Rattle.reactor.specs.Core.{name_at}
 use Rattle.scenario.specs.Cut.{StartsWith, IsCut}
-use Rattle.scenario.specs.Interface.{is_input_at, is_interface_at, HasNames, LacksInput}
-use Rattle.scenario.specs.Scenario.{AreInputs, spaced_names}
+use Rattle.scenario.specs.Interface.{is_input_at, HasWords, LacksInput}
+use Rattle.scenario.specs.Scenario.{spaced_names}
 use Rattle.scenario.specs.Reader.{IsNamed, IsRefusedName, IsTakenName, LacksNames, NamesSoFar}
 use Rattle.scenario.proofs.Cuts.{same_cut}
 use Rattle.scenario.proofs.Numbering.{input_interface}
@@ -21,7 +20,7 @@ at_middle : (P : ℕ → Type 0) (xs : List ℕ) (y : ℕ) (ys : List ℕ) → A
 at_middle P xs y ys all = subst P (get_or_at xs y ys y (length xs) refl) (all (length xs) y (simp length-append (omega arith)))
 
 -- a name has no space
-name_lacks_space : (signals : List SignalDecl) (s : ℕ) → HasNames signals → is_input_at signals s ≡ true → All (λ b. b ≢ 32) (name_at signals s)
+name_lacks_space : (signals : List SignalDecl) (s : ℕ) → HasWords signals → is_input_at signals s ≡ true → All (λ b. b ≢ 32) (name_at signals s)
 name_lacks_space signals s names h = (names.words s (input_interface signals s h)).no_space
 
 -- spaced names are empty or begin with a space
@@ -30,11 +29,11 @@ spaced_starts signals [] rest h = h
 spaced_starts signals (s ∷ inputs) rest h = refl
 
 -- the same name is the same input
-same_input : (signals : List SignalDecl) (s t : ℕ) → HasNames signals → is_input_at signals s ≡ true → is_input_at signals t ≡ true → name_at signals s ≡ name_at signals t → s ≡ t
+same_input : (signals : List SignalDecl) (s t : ℕ) → HasWords signals → is_input_at signals s ≡ true → is_input_at signals t ≡ true → name_at signals s ≡ name_at signals t → s ≡ t
 same_input signals s t names h k e = names.distinct s t (input_interface signals s h) (input_interface signals t k) e
 
 -- what follows the names of some inputs are the names of the others
-pub follow : (signals : List SignalDecl) → HasNames signals → (xs ys rest : List ℕ) → All (λ s. is_input_at signals s ≡ true) xs → All (λ s. is_input_at signals s ≡ true) ys → StartsWith 32 rest → spaced_names signals xs ++ rest ≡ spaced_names signals ys → (more : List ℕ) × (ys ≡ xs ++ more) × (rest ≡ spaced_names signals more)
+pub follow : (signals : List SignalDecl) → HasWords signals → (xs ys rest : List ℕ) → All (λ s. is_input_at signals s ≡ true) xs → All (λ s. is_input_at signals s ≡ true) ys → StartsWith 32 rest → spaced_names signals xs ++ rest ≡ spaced_names signals ys → (more : List ℕ) × (ys ≡ xs ++ more) × (rest ≡ spaced_names signals more)
 follow signals names [] ys rest hx hy starts e = (ys, refl, e)
 follow signals names (x ∷ xs) [] rest hx hy starts e = absurd cc
 follow signals names (x ∷ xs) (y ∷ ys) rest hx hy starts e =
@@ -114,7 +113,7 @@ pub all_names : (signals : List SignalDecl) (names : List ℕ) (n : ℕ) (inputs
 all_names signals names n inputs rest noted none far = far.names_are ∙ ap (λ r. spaced_names signals inputs ++ r) none ∙ append-nil (spaced_names signals inputs)
 
 -- the name that comes next is no input's, or stands twice
-refuse_next : (signals : List SignalDecl) (n : ℕ) (inputs others noted : List ℕ) (c : ℕ) (behind name more : List ℕ) → HasNames signals → IsCut 32 behind name more → IsRefusedName signals name n noted → ((s : ℕ) → s < length noted → get_or noted s 0 ≡ n → Contains inputs s) → c ∷ behind ≡ spaced_names signals others → All (λ s. is_input_at signals s ≡ true) (inputs ++ others) → AllPairs (λ a b. a ≢ b) (inputs ++ others) → ⊥
+refuse_next : (signals : List SignalDecl) (n : ℕ) (inputs others noted : List ℕ) (c : ℕ) (behind name more : List ℕ) → HasWords signals → IsCut 32 behind name more → IsRefusedName signals name n noted → ((s : ℕ) → s < length noted → get_or noted s 0 ≡ n → Contains inputs s) → c ∷ behind ≡ spaced_names signals others → All (λ s. is_input_at signals s ≡ true) (inputs ++ others) → AllPairs (λ a b. a ≢ b) (inputs ++ others) → ⊥
 refuse_next signals n inputs [] noted c behind name more has cut refused named e given once = cc
 refuse_next signals n inputs (s ∷ others) noted c behind name more has cut refused named e given once =
     let s_is : is_input_at signals s ≡ true = at_middle (λ t. is_input_at signals t ≡ true) inputs s others given in
@@ -129,7 +128,7 @@ refuse_next signals n inputs (s ∷ others) noted c behind name more has cut ref
     refused
 
 -- a name that is refused
-pub refuse : (signals : List SignalDecl) (names : List ℕ) (n : ℕ) (inputs rest noted : List ℕ) (c : ℕ) (behind name more : List ℕ) → HasNames signals → rest ≡ c ∷ behind → IsCut 32 behind name more → IsRefusedName signals name n noted → NamesSoFar signals names n inputs rest noted → LacksNames signals names
+pub refuse : (signals : List SignalDecl) (names : List ℕ) (n : ℕ) (inputs rest noted : List ℕ) (c : ℕ) (behind name more : List ℕ) → HasWords signals → rest ≡ c ∷ behind → IsCut 32 behind name more → IsRefusedName signals name n noted → NamesSoFar signals names n inputs rest noted → LacksNames signals names
 refuse signals names n inputs rest noted c behind name more has rest_is cut refused far = λ all are e.
     let P : ℕ → Type 0 = λ s. is_input_at signals s ≡ true in
     let parts = follow signals has inputs all rest far.inputs_are.given are.given far.starts (sym far.names_are ∙ e) in

@@ -1,10 +1,9 @@
 -- An index of an interface as it is made, a signal at a time.
-use Rattle.std.proofs.Common.{◌≡◌, ◌≢◌, ◌<◌, ◌≤◌, ◌+◌, ◌⊎◌, ℕ, Bool, true, false, cond, Option, Some, None, List, [], ◌∷◌, length, get_or, refl, sym, ap, ◌∙◌, subst, arith, rules, inl, inr, ⊎_elim}
+use Rattle.std.proofs.Common.{◌≡◌, ◌<◌, ◌≤◌, ◌+◌, ◌^◌, ◌⊎◌, ℕ, Bool, true, false, cond, Option, Some, None, List, [], length, get_or, refl, sym, ap, ◌∙◌, subst, arith, ⊎_elim}
 use Rattle.std.specs.Prelude.{IsSome, slice_get, MatchOption}
 use Rattle.std.specs.Bool.{then_some}
 use Rattle.std.specs.HashMap.{UpdatesBy}
 use Rattle.std.specs.Str.{bytes_eq}
-use Rattle.std.specs.Map.{update}
 use Rattle.std.proofs.lemmas.Map.Text.{hash_map_updates_str}
 use Rattle.std.proofs.lemmas.Slice.Eq.{bytes_eq-Decides}
 use Rattle.std.proofs.lemmas.Option.{slice_get_within, slice_get_read}
@@ -12,7 +11,7 @@ use Rattle.hh_term.specs.declared.program.Dir.{Dir}
 use Rattle.hh_term.specs.declared.program.Dir.TheVariants as dir
 use Rattle.hh_term.specs.declared.program.SignalDecl.{SignalDecl}
 use Rattle.reactor.specs.Core.{name_at, name_or_none}
-use Rattle.scenario.specs.Interface.{is_input, is_input_at, is_interface, is_interface_at, interface_name, HasNames, LacksInput}
+use Rattle.scenario.specs.Interface.{is_input, is_input_at, is_interface, is_interface_at, interface_name, HasNames, HasWords, IsWord, LacksInput}
 use Rattle.scenario.specs.Index.{Numbers, number_of, IsIndex, IsIndexBelow}
 
 -- what the declaration at a place says
@@ -62,13 +61,17 @@ unnamed : (signals : List SignalDecl) (n : ℕ) (d : SignalDecl) → HasNames si
 unnamed signals n d names e none h =
     let inside : is_interface d.dir ≡ true = sym (interface_at-read signals n d e) ∙ h in
     let nameless : d.name ≡ None = not_chosen (is_interface d.dir) d.name none inside in
-    (names.words n h).some (name_at-read signals n d e ∙ ap name_or_none nameless)
+    let some : IsSome {T = List ℕ} None = subst IsSome nameless (names.named n d e inside) in
+    cc
 
 pub keeps : (signals : List SignalDecl) (numbers : Numbers) (n : ℕ) (d : SignalDecl) → HasNames signals → slice_get signals n ≡ Some d → interface_name d ≡ None → IsIndexBelow signals numbers n → IsIndexBelow signals numbers (n + 1)
-keeps signals numbers n d names e none below = record {
-  sound = below.sound;
-  complete = λ s l h. ⊎_elim (λ (lower : s < n). below.complete s lower h) (λ (same : s ≡ n). absurd (unnamed signals n d names e none (subst (λ k. is_interface_at signals k ≡ true) same h))) (below_or_at s n l);
-}
+keeps signals numbers n d names e none below =
+    let apart = λ (s : ℕ) (same : s ≡ n) (h : is_interface_at signals s ≡ true). unnamed signals n d names e none (subst (λ k. is_interface_at signals k ≡ true) same h) in
+    record {
+      sound = below.sound;
+      words = λ s l h. ⊎_elim (λ (lower : s < n). below.words s lower h) (λ (same : s ≡ n). absurd (apart s same h)) (below_or_at s n l);
+      complete = λ s l h. ⊎_elim (λ (lower : s < n). below.complete s lower h) (λ (same : s ≡ n). absurd (apart s same h)) (below_or_at s n l);
+    }
 
 -- a name is put into the index
 named_at : (signals : List SignalDecl) (n : ℕ) (d : SignalDecl) (name : List ℕ) → slice_get signals n ≡ Some d → interface_name d ≡ Some name → (is_interface_at signals n ≡ true) × (name_at signals n ≡ name)
@@ -76,12 +79,13 @@ named_at signals n d name e named =
     let parts = chosen (is_interface d.dir) d.name name named in
     (interface_at-read signals n d e ∙ parts.0, name_at-read signals n d e ∙ ap name_or_none parts.1)
 
-pub adds : (signals : List SignalDecl) (old new : Numbers) (n : ℕ) (d : SignalDecl) (name : List ℕ) → slice_get signals n ≡ Some d → interface_name d ≡ Some name → UpdatesBy (λ x y. bytes_eq x.now y.now) (λ k. bytes_eq name k.now) old new (Some n) → IsIndexBelow signals old n → IsIndexBelow signals new (n + 1)
-adds signals old new n d name e named updates below =
+pub adds : (signals : List SignalDecl) (old new : Numbers) (n : ℕ) (d : SignalDecl) (name : List ℕ) → slice_get signals n ≡ Some d → interface_name d ≡ Some name → IsWord name → UpdatesBy (λ x y. bytes_eq x.now y.now) (λ k. bytes_eq name k.now) old new (Some n) → IsIndexBelow signals old n → IsIndexBelow signals new (n + 1)
+adds signals old new n d name e named word updates below =
     let here = named_at signals n d name e named in
     let found : (cs : List ℕ) → number_of new cs ≡ cond (bytes_eq name cs) (Some n) (number_of old cs) = hash_map_updates_str name old new (Some n) updates in
     record {
       sound = λ cs s at. sound_after signals n name cs s (number_of old cs) here (below.sound cs s) (bytes_eq name cs) refl (sym (found cs) ∙ at);
+      words = λ s l h. ⊎_elim (λ (lower : s < n). below.words s lower h) (λ (same : s ≡ n). subst IsWord (sym (ap (name_at signals) same ∙ here.1)) word) (below_or_at s n l);
       complete = λ s l h. let more = complete_after signals n s name (number_of old (name_at signals s)) here (λ lower. below.complete s lower h) l (bytes_eq name (name_at signals s)) refl in subst IsSome (sym (found (name_at signals s))) more;
     }
 
@@ -125,7 +129,7 @@ lacks_unfound signals numbers name index none s h named =
     cc
 
 -- where it finds another signal, neither
-pub lacks_other : (signals : List SignalDecl) (numbers : Numbers) (name : List ℕ) (s : ℕ) → HasNames signals → IsIndex signals numbers → number_of numbers name ≡ Some s → is_input_at signals s ≡ false → LacksInput signals name
+pub lacks_other : (signals : List SignalDecl) (numbers : Numbers) (name : List ℕ) (s : ℕ) → HasWords signals → IsIndex signals numbers → number_of numbers name ≡ Some s → is_input_at signals s ≡ false → LacksInput signals name
 lacks_other signals numbers name s names index at other t h named =
     let known = index.sound name s at in
     let same : t ≡ s = names.distinct t s (input_interface signals t h) known.0 (named ∙ sym known.1) in
@@ -133,9 +137,19 @@ lacks_other signals numbers name s names index at other t h named =
     cc
 
 -- the answer to a name that the index finds
-pub answered : (signals : List SignalDecl) (numbers : Numbers) (name : List ℕ) (s : ℕ) (d : SignalDecl) → HasNames signals → IsIndex signals numbers → number_of numbers name ≡ Some s → d ≡ get_or signals s d → (b : Bool) → b ≡ is_input (get_or signals s d).dir → MatchOption (then_some b s) (LacksInput signals name) (λ t. (is_input_at signals t ≡ true) × (name_at signals t ≡ name))
+pub answered : (signals : List SignalDecl) (numbers : Numbers) (name : List ℕ) (s : ℕ) (d : SignalDecl) → HasWords signals → IsIndex signals numbers → number_of numbers name ≡ Some s → d ≡ get_or signals s d → (b : Bool) → b ≡ is_input (get_or signals s d).dir → MatchOption (then_some b s) (LacksInput signals name) (λ t. (is_input_at signals t ≡ true) × (name_at signals t ≡ name))
 answered signals numbers name s d names index at read true test =
     let known = found signals numbers name s d index at read true (dir_read signals s d read ∙ sym test) in
     (known.0, known.1)
 answered signals numbers name s d names index at read false test =
     lacks_other signals numbers name s names index at (found signals numbers name s d index at read false (dir_read signals s d read ∙ sym test)).0
+
+pub all_words : (signals : List SignalDecl) (numbers : Numbers) (n : ℕ) → HasNames signals → length signals ≤ n → IsIndexBelow signals numbers n → HasWords signals
+all_words signals numbers n names all below = record {
+  words = λ s h. let inside = interface_within signals s h in below.words s (omega arith) h;
+  distinct = names.distinct;
+}
+
+-- the number of a named signal is one of 32 bits
+pub number_fits : (signals : List SignalDecl) (n : ℕ) (d : SignalDecl) (name : List ℕ) → HasNames signals → slice_get signals n ≡ Some d → interface_name d ≡ Some name → n < 2 ^ 32
+number_fits signals n d name names e named = names.numbered n (named_at signals n d name e named).0

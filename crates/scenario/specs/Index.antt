@@ -7,7 +7,7 @@ use Rattle.std.specs.declared.hash.FoldHasher.{FoldHasher}
 use Rattle.std.specs.declared.hash.BuildHasherDefault.{BuildHasherDefault}
 use Rattle.hh_term.specs.declared.program.SignalDecl.{SignalDecl}
 use Rattle.reactor.specs.Core.{name_at}
-use Rattle.scenario.specs.Interface.{is_interface_at}
+use Rattle.scenario.specs.Interface.{is_interface_at, IsWord}
 
 -- numbers by names
 abbrev pub Numbers : Type 0
@@ -24,4 +24,5 @@ pub record IsIndex (signals : List SignalDecl) (numbers : Numbers) : Type 0 wher
 -- the same for the first n signals
 pub record IsIndexBelow (signals : List SignalDecl) (numbers : Numbers) (n : ℕ) : Type 0 where
   pub sound : (name : List ℕ) (s : ℕ) → number_of numbers name ≡ Some s → (is_interface_at signals s ≡ true) × (name_at signals s ≡ name)
+  pub words : (s : ℕ) → s < n → is_interface_at signals s ≡ true → IsWord (name_at signals s)
   pub complete : (s : ℕ) → s < n → is_interface_at signals s ≡ true → IsSome (number_of numbers (name_at signals s))

@@ -1,5 +1,5 @@
 -- The signals of a program's interface, by number and by name. (This project's own.)
-use Rattle.std.specs.Prelude.{◌≡◌, ◌≢◌, ℕ, ◌<◌, ◌^◌, Bool, true, false, cond, Option, Some, None, List, [], All, length, slice_get}
+use Rattle.std.specs.Prelude.{◌≡◌, ◌≢◌, ℕ, ◌<◌, ◌^◌, Bool, true, false, cond, Option, Some, None, List, [], All, IsSome, slice_get}
 use Rattle.hh_term.specs.declared.program.Dir.{Dir}
 use Rattle.hh_term.specs.declared.program.Dir.TheVariants as dir
 use Rattle.hh_term.specs.declared.program.SignalDecl.{SignalDecl}
@@ -31,9 +31,14 @@ pub record IsWord (bytes : List ℕ) : Type 0 where
   pub no_space : All (λ b. b ≢ 32) bytes
   pub no_line_end : All (λ b. b ≢ 10) bytes
 
--- each signal of the interface has a name, which is a word and no other's
+-- each signal of the interface has a name, and no two the same
 pub record HasNames (signals : List SignalDecl) : Type 0 where
-  pub few : length signals < 2 ^ 32
+  pub numbered : (s : ℕ) → is_interface_at signals s ≡ true → s < 2 ^ 32
+  pub named : (s : ℕ) (d : SignalDecl) → slice_get signals s ≡ Some d → is_interface d.dir ≡ true → IsSome d.name
+  pub distinct : (s t : ℕ) → is_interface_at signals s ≡ true → is_interface_at signals t ≡ true → name_at signals s ≡ name_at signals t → s ≡ t
+
+-- each signal of the interface has a word for a name, and no two the same
+pub record HasWords (signals : List SignalDecl) : Type 0 where
   pub words : (s : ℕ) → is_interface_at signals s ≡ true → IsWord (name_at signals s)
   pub distinct : (s t : ℕ) → is_interface_at signals s ≡ true → is_interface_at signals t ≡ true → name_at signals s ≡ name_at signals t → s ≡ t
 

@@ -7,7 +7,6 @@ use Rattle.hh_base.specs.declared.value.Value.TheVariants as value
 use Rattle.hh_base.specs.declared.value.FaultKind.{FaultKind}
 use Rattle.hh_base.specs.declared.value.FaultKind.TheVariants.{Divide, Overflow, TextLong}
 use Rattle.hh_term.specs.declared.program.SignalDecl.{SignalDecl}
-use Rattle.reactor.specs.declared.reply.Done.{Done as Report}
 use Rattle.reactor.specs.declared.reply.Reply.{Reply}
 use Rattle.reactor.specs.declared.reply.Reply.TheVariants.{Done, Causality, Multiple, Fault}
 use Rattle.reactor.specs.Core.{name_at}

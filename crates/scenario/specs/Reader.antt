@@ -1,5 +1,5 @@
 -- What the reader of scenarios has read so far. (This project's own.)
-use Rattle.std.specs.Prelude.{◌≡◌, ◌≢◌, ℕ, ◌+◌, ◌<◌, ◌≤◌, true, Option, List, [], ◌∷◌, ◌++◌, All, Contains, MatchOption, map, length, slice_index, slice_set, ◌⊎◌}
+use Rattle.std.specs.Prelude.{◌≡◌, ◌≢◌, ℕ, ◌+◌, ◌<◌, ◌≤◌, true, Option, List, [], ◌++◌, All, Contains, MatchOption, map, length, slice_index, slice_set, ◌⊎◌}
 use Rattle.hh_term.specs.declared.program.SignalDecl.{SignalDecl}
 use Rattle.reactor.specs.Core.{name_at}
 use Rattle.scenario.specs.Cut.{StartsWith}

@@ -1,10 +1,11 @@
 //! The signals of an interface by name.
-ghost use Rattle.std.specs.Prelude.{◌≡◌, ◌<◌, ◌^◌, ℕ, true, List, length, slice_get, IfOk, MatchOption};
+ghost use Rattle.std.specs.Prelude.{◌≡◌, ◌<◌, ◌^◌, ℕ, true, List, length, slice_get, IfOk, IfSome, OnOk, MatchOption};
 ghost use Rattle.std.specs.Option.{option_copied};
 ghost use Rattle.reactor.specs.Core.{name_at};
 ghost use Rattle.scenario.specs.Index.{IsIndex, number_of};
-ghost use Rattle.scenario.specs.Interface.{HasNames, LacksInput, interface_name, is_input, is_input_at};
+ghost use Rattle.scenario.specs.Interface.{HasNames, HasWords, IsWord, LacksInput, interface_name, is_input, is_input_at};
 
+use hh_base::name::Name;
 use hh_base::value::NoMemory;
 use hh_term::program::{Dir, SignalDecl};
 use std::alloc::Global;
@@ -12,7 +13,7 @@ use std::collections::HashMap;
 
 /// Declarations, and the number of each signal of the interface by its name.
 #[derive(Drop)]
-pub struct Interface<'a> {
+pub struct NameIndex<'a> {
     pub signals: &'a [SignalDecl],
     pub numbers: HashMap<&'a [u8], u32>,
 }
@@ -23,12 +24,21 @@ fn is_input(dir: Dir) -> bool
     matches!(dir, Dir::Input)
 }
 
+/// The bytes of a name, which are a word.
+fn word_of(name: &Name) -> &[u8]
+    ensures bytes { result.now ≡ name.now }
+    ensures word { IsWord name.now }
+{
+    name.as_str().as_bytes()
+}
+
 /// The bytes of the name that the signal has in the interface.
 fn interface_name(signal: &SignalDecl) -> Option<&[u8]>
-    ensures { option_copied result ≡ interface_name signal.now }
+    ensures name { option_copied result ≡ interface_name signal.now }
+    ensures word { IfSome result (λ name. IsWord name.now) }
 {
     match &signal.name {
-        Some(name) if signal.dir != Dir::Local => Some(name.as_bytes()),
+        Some(name) if signal.dir != Dir::Local => Some(word_of(name)),
         _ => None,
     }
 }
@@ -36,7 +46,8 @@ fn interface_name(signal: &SignalDecl) -> Option<&[u8]>
 /// The numbers of the interface's signals by their names.
 fn number_names(alloc: Global, signals: &[SignalDecl]) -> Result<HashMap<&[u8], u32>, NoMemory>
     requires { HasNames signals.now }
-    ensures { IfOk result (IsIndex signals.now) }
+    ensures index { IfOk result (IsIndex signals.now) }
+    ensures words { OnOk result (HasWords signals.now) }
 {
     let mut numbers = HashMap::new(alloc);
     for (number, signal) in signals.iter().enumerate() {
@@ -47,13 +58,14 @@ fn number_names(alloc: Global, signals: &[SignalDecl]) -> Result<HashMap<&[u8], 
     Ok(numbers)
 }
 
-impl<'a> Interface<'a> {
-    pub fn new(alloc: Global, signals: &'a [SignalDecl]) -> Result<Interface<'a>, NoMemory>
+impl<'a> NameIndex<'a> {
+    pub fn new(alloc: Global, signals: &'a [SignalDecl]) -> Result<NameIndex<'a>, NoMemory>
         requires { HasNames signals.now }
         ensures signals { IfOk result (λ i. i.signals.now ≡ signals.now) }
         ensures index { IfOk result (λ i. IsIndex signals.now i.numbers) }
+        ensures words { OnOk result (HasWords signals.now) }
     {
-        Ok(Interface {
+        Ok(NameIndex {
             signals,
             numbers: number_names(alloc, signals)?,
         })
@@ -61,8 +73,8 @@ impl<'a> Interface<'a> {
 
     /// The input of this name.
     pub fn find_input(&self, name: &[u8]) -> Option<u32>
-        requires index { IsIndex self.now.signals.now self.now.numbers }
-        requires names { HasNames self.now.signals.now }
+        requires indexed { IsIndex self.now.signals.now self.now.numbers }
+        requires names { HasWords self.now.signals.now }
         ensures { MatchOption result (LacksInput self.now.signals.now name.now)
             (λ s. (is_input_at self.now.signals.now s ≡ true) × (name_at self.now.signals.now s ≡ name.now)) }
     {

@@ -6,3 +6,5 @@ mod interface;
 pub mod line;
 pub mod print;
 pub mod read;
+#[cfg(test)]
+mod tests;

@@ -2,12 +2,12 @@
 ghost use Rattle.std.specs.Prelude.{◌≡◌, ◌+◌, ◌<◌, ◌≤◌, ◌^◌, ◌⊎◌, ℕ, true, List, All, length, map, IfOk, OnOk, IfErr};
 ghost use Rattle.scenario.specs.Cut.{StartsWith};
 ghost use Rattle.scenario.specs.Index.{IsIndex};
-ghost use Rattle.scenario.specs.Interface.{HasNames};
+ghost use Rattle.scenario.specs.Interface.{HasNames, HasWords};
 ghost use Rattle.scenario.specs.Reader.{LacksNames, TakesName};
 ghost use Rattle.scenario.specs.Scenario.{AreInputs, IsFirstLine, IsFirstRefused, IsNoLine, IsRead, IsScenario, inputs_of_line, spaced_names, spelling};
 
 use crate::cut::cut;
-use crate::interface::Interface;
+use crate::interface::NameIndex;
 use crate::line::{Line, ScenarioFault, Signals};
 use hh_term::program::SignalDecl;
 use std::alloc::Global;
@@ -25,13 +25,13 @@ fn split_line(text: &[u8]) -> (&[u8], &[u8])
 
 /// The input of this name, unless the line named it before. `noted` has for each signal the number of
 /// the last line that named it.
-fn take_name(interface: &Interface, name: &[u8], number: u64, noted: &mut [u64]) -> Option<u32>
-    requires index { IsIndex interface.now.signals.now interface.now.numbers }
-    requires names { HasNames interface.now.signals.now }
-    requires noted_each { length noted.old ≡ length interface.now.signals.now }
-    ensures { TakesName interface.now.signals.now name.now number noted.old result noted.new }
+fn take_name(index: &NameIndex, name: &[u8], number: u64, noted: &mut [u64]) -> Option<u32>
+    requires indexed { IsIndex index.now.signals.now index.now.numbers }
+    requires names { HasWords index.now.signals.now }
+    requires noted_each { length noted.old ≡ length index.now.signals.now }
+    ensures { TakesName index.now.signals.now name.now number noted.old result noted.new }
 {
-    let input = interface.find_input(name)?;
+    let input = index.find_input(name)?;
     if noted[input as usize] == number {
         return None;
     }
@@ -44,24 +44,24 @@ fn read_names(
     alloc: Global,
     names: &[u8],
     number: u64,
-    interface: &Interface,
+    index: &NameIndex,
     noted: &mut [u64],
 ) -> Result<Signals, ScenarioFault>
-    requires index { IsIndex interface.now.signals.now interface.now.numbers }
-    requires names { HasNames interface.now.signals.now }
-    requires noted_each { length noted.old ≡ length interface.now.signals.now }
+    requires indexed { IsIndex index.now.signals.now index.now.numbers }
+    requires names { HasWords index.now.signals.now }
+    requires noted_each { length noted.old ≡ length index.now.signals.now }
     requires noted_before { All (λ n. n < number) noted.old }
     requires spaced { StartsWith 32 names.now }
-    ensures inputs { IfOk result (AreInputs interface.now.signals.now) }
-    ensures spelled { IfOk result (λ is. names.now ≡ spaced_names interface.now.signals.now is) }
+    ensures inputs { IfOk result (AreInputs index.now.signals.now) }
+    ensures spelled { IfOk result (λ is. names.now ≡ spaced_names index.now.signals.now is) }
     ensures noted { OnOk result (All (λ n. n ≤ number) noted.new) }
-    ensures refused { IfErr result (λ e. (e ≡ ScenarioFault.NoMemory) ⊎ ((e ≡ ScenarioFault.Refused number) × LacksNames interface.now.signals.now names.now)) }
+    ensures refused { IfErr result (λ e. (e ≡ ScenarioFault.NoMemory) ⊎ ((e ≡ ScenarioFault.Refused number) × LacksNames index.now.signals.now names.now)) }
 {
     let mut inputs = Vec::new(alloc);
     let mut rest = names;
     while let Some((_, behind)) = rest.split_first() {
         let (name, more) = cut(behind, b' ');
-        let Some(input) = take_name(interface, name, number, noted) else {
+        let Some(input) = take_name(index, name, number, noted) else {
             return Err(ScenarioFault::Refused(number));
         };
         inputs.push(input)?;
@@ -75,23 +75,23 @@ fn read_line(
     alloc: Global,
     line: &[u8],
     number: u64,
-    interface: &Interface,
+    index: &NameIndex,
     noted: &mut [u64],
 ) -> Result<Signals, ScenarioFault>
-    requires index { IsIndex interface.now.signals.now interface.now.numbers }
-    requires names { HasNames interface.now.signals.now }
-    requires noted_each { length noted.old ≡ length interface.now.signals.now }
+    requires indexed { IsIndex index.now.signals.now index.now.numbers }
+    requires names { HasWords index.now.signals.now }
+    requires noted_each { length noted.old ≡ length index.now.signals.now }
     requires noted_before { All (λ n. n < number) noted.old }
-    ensures inputs { IfOk result (AreInputs interface.now.signals.now) }
-    ensures spelled { IfOk result (λ is. line.now ≡ spelling interface.now.signals.now is) }
+    ensures inputs { IfOk result (AreInputs index.now.signals.now) }
+    ensures spelled { IfOk result (λ is. line.now ≡ spelling index.now.signals.now is) }
     ensures noted { OnOk result (All (λ n. n ≤ number) noted.new) }
-    ensures refused { IfErr result (λ e. (e ≡ ScenarioFault.NoMemory) ⊎ ((e ≡ ScenarioFault.Refused number) × IsNoLine interface.now.signals.now line.now)) }
+    ensures refused { IfErr result (λ e. (e ≡ ScenarioFault.NoMemory) ⊎ ((e ≡ ScenarioFault.Refused number) × IsNoLine index.now.signals.now line.now)) }
 {
     let (word, names) = cut(line, b' ');
     if word != b"react".as_slice() {
         return Err(ScenarioFault::Refused(number));
     }
-    read_names(alloc, names, number, interface, noted)
+    read_names(alloc, names, number, index, noted)
 }
 
 /// Reads a scenario: its lines are parted by LF, of which the last may lack its own, and each is `react`
@@ -106,7 +106,7 @@ pub fn read_scenario(
     ensures only { (reactions : List (List ℕ)) → IsScenario signals.now text.now reactions → IsRead reactions result }
     ensures refused { IfErr result (λ e. (n : ℕ) → e ≡ ScenarioFault.Refused n → IsFirstRefused signals.now text.now n) }
 {
-    let interface = Interface::new(alloc, signals)?;
+    let index = NameIndex::new(alloc, signals)?;
     let mut last_lines = vec![in alloc; 0u64; signals.len()]?;
     let noted = last_lines.as_mut_slice();
     let mut lines = Vec::new(alloc);
@@ -115,7 +115,7 @@ pub fn read_scenario(
     'lines: while !rest.is_empty() {
         let (line, behind) = split_line(rest);
         number += 1;
-        let inputs = read_line(alloc, line, number, &interface, noted)?;
+        let inputs = read_line(alloc, line, number, &index, noted)?;
         lines.push(Line::React(inputs))?;
         rest = behind;
     }

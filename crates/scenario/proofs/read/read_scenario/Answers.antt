@@ -1,4 +1,4 @@
-use Rattle.std.proofs.Common.{◌≡◌, ◌≢◌, ◌+◌, ◌++◌, ◌∷◌, [], ℕ, List, map, refl, sym, ◌∙◌, subst}
+use Rattle.std.proofs.Common.{◌≡◌, ◌≢◌, ◌+◌, [], List, map, ◌∙◌, subst}
 use Rattle.std.proofs.lemmas.List.{map_push}
 use Rattle.std.proofs.lemmas.Result.{err_from_is_err_and}
 use Rattle.hh_term.specs.declared.program.SignalDecl.{SignalDecl}
@@ -11,15 +11,15 @@ returns-in_err-inputs-clause-only c = λ reactions reading.
     let signals = c.args.signals.now in
     let far = c.lines in
     let some : far.rest.now ≢ [] = something_left far.rest.now c.lines-test.ensures in
-    let why = fault_at_line c.in_ok-interface.interface.signals.now signals c.args.text.now (map inputs_of_line far.lines.items) far.number far.rest.now far.noted c.split_line.result.0.now c.split_line.result.1.now c.in_err-inputs.field-0.0 c.in_ok-interface.ensures.signals some c.split_line.ensures far.invariant c.in_err-inputs.ensures.refused in
+    let why = fault_at_line c.in_ok-index.index.signals.now signals c.args.text.now (map inputs_of_line far.lines.items) far.number far.rest.now far.noted c.split_line.result.0.now c.split_line.result.1.now c.in_err-inputs.field-0.0 c.in_ok-index.ensures.signals some c.split_line.ensures far.invariant c.in_err-inputs.ensures.refused in
     let p = err_from_is_err_and c.from_residual-in_err-inputs.result c.from_residual-in_err-inputs.ensures.1 in
-    rw p.1 (p.2 ∙ is_read_fault signals c.args.text.now reactions (far.number + 1) c.in_err-inputs.field-0.0 c.requires reading why)
+    rw p.1 (p.2 ∙ is_read_fault signals c.args.text.now reactions (far.number + 1) c.in_err-inputs.field-0.0 c.in_ok-index.ensures.words reading why)
 
 pub lines-preserved : goal.lines-preserved
 lines-preserved c =
     let far = c.lines in
     let some : far.rest.now ≢ [] = something_left far.rest.now c.lines-test.ensures in
-    let same = c.in_ok-interface.ensures.signals in
+    let same = c.in_ok-index.ensures.signals in
     let inputs = c.in_ok-inputs.inputs in
     let are = subst (λ (s : List SignalDecl). AreInputs s inputs) same c.in_ok-inputs.ensures.inputs in
     let spelled = subst (λ (s : List SignalDecl). c.split_line.result.0.now ≡ spelling s inputs) same c.in_ok-inputs.ensures.spelled in
@@ -31,4 +31,4 @@ returns-clause-found c = all_lines c.args.signals.now c.args.text.now (map input
 
 pub returns-clause-only : goal.returns-clause-only
 returns-clause-only c = λ reactions reading.
-    one_reading c.args.signals.now c.args.text.now (map inputs_of_line c.lines.lines.items) reactions c.requires (all_lines c.args.signals.now c.args.text.now (map inputs_of_line c.lines.lines.items) c.lines.number c.lines.rest.now c.lines.noted (nothing_left c.lines.rest.now c.lines-test.ensures) c.lines.invariant) reading
+    one_reading c.args.signals.now c.args.text.now (map inputs_of_line c.lines.lines.items) reactions c.in_ok-index.ensures.words (all_lines c.args.signals.now c.args.text.now (map inputs_of_line c.lines.lines.items) c.lines.number c.lines.rest.now c.lines.noted (nothing_left c.lines.rest.now c.lines-test.ensures) c.lines.invariant) reading

@@ -1,4 +1,4 @@
-use Rattle.std.proofs.Common.{◌≡◌, length, map}
+use Rattle.std.proofs.Common.{length, map}
 use Rattle.scenario.specs.Scenario.{inputs_of_line}
 use Rattle.scenario.specs.Reader.{LinesSoFar}
 use Rattle.scenario.proofs.read.read_scenario.Given as goal
