@@ -6,3 +6,6 @@ mod reaction;
 mod walk;
 
 pub use reaction::{Stepped, step};
+
+#[cfg(test)]
+mod tests;
