@@ -6,3 +6,5 @@ pub mod laws;
 pub mod mark;
 pub mod program;
 pub mod term;
+#[cfg(test)]
+mod tests;

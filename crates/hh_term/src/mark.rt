@@ -197,3 +197,6 @@ impl Marked {
         }
     }
 }
+
+#[cfg(test)]
+mod tests;
