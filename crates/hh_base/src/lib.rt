@@ -6,6 +6,8 @@ pub mod keyword;
 pub mod literal;
 pub mod memory;
 pub mod name;
+#[cfg(test)]
+mod tests;
 pub mod text;
 pub mod value;
 pub mod words;
