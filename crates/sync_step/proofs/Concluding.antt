@@ -39,6 +39,7 @@ concludes K L c rests inputs are n en g eg end r present ep out eo next ex befor
       completes = a.completes;
       interface = a.interface;
       signals = eo ∙ ap (passing_below (flag_of present)) count ∙ a.signals;
+      units = a.units;
       code = r.code ∙ a.code;
       next = ex ∙ r.next ∙ a.next;
     }

@@ -1,15 +1,18 @@
 -- The interface signals of a program of the first language, solved as nested scopes: each input is as it is given, and each output
 -- as the statement emits it.
-use Rattle.std.proofs.Common.{◌≡◌, ◌≢◌, refl, sym, ap, ◌∙◌, subst, ℕ, suc, ◌+◌, ◌<◌, ◌≤◌, Bool, true, false, cond, ◌==◌, eq-eqb, Option, Some, None, List, [], ◌∷◌, ◌++◌, ◌⊎◌, inl, inr, length, arith}
+use Rattle.std.proofs.Common.{◌≡◌, ◌≢◌, refl, sym, ap, ◌∙◌, subst, ℕ, suc, ◌+◌, ◌<◌, ◌≤◌, Bool, true, false, cond, ◌==◌, eq-eqb, Option, Some, None, List, [], ◌∷◌, ◌++◌, map, ◌⊎◌, inl, inr, length, arith}
+use Rattle.std.specs.List.{AllByRecursion}
 use Rattle.std.proofs.lemmas.Option.{slice_get_within}
 use Rattle.hh_base.specs.declared.value.Value.{Value}
 use Rattle.hh_base.specs.declared.value.Value.TheVariants as value
 use Rattle.hh_base.specs.declared.value.Kind.{Kind}
+use Rattle.hh_base.specs.declared.value.Kind.TheVariants as kind
 use Rattle.hh_base.specs.declared.value.CombineWord.{CombineWord}
 use Rattle.host_expr.specs.declared.cell.Cell.{Cell}
 use Rattle.host_expr.specs.declared.cell.Cell.TheVariants as cell
 use Rattle.host_expr.specs.declared.cell.SigCell.{SigCell}
-use Rattle.host_expr.specs.Environment.{Env, is_known, put, unsolved}
+use Rattle.host_expr.specs.Environment.{Env, is_known, is_present, put, unsolved}
+use Rattle.host_expr.specs.Combination.{combined, counts_as}
 use Rattle.hh_term.specs.declared.program.SignalDecl.{SignalDecl}
 use Rattle.hh_term.specs.declared.program.Dir.TheVariants as dir
 use Rattle.hh_term.specs.FirstLanguage.{HasDirection}
@@ -28,10 +31,19 @@ abbrev pub given_cells : Bool → List Cell
 given_cells true = cell.Known value.Unit ∷ []
 given_cells false = []
 
--- solved by these cells in both halves
+-- pure signals without a combine word
+abbrev pub IsPureTable : Table → Type 0
+IsPureTable T = (s : ℕ) → (T.kind s ≡ kind.Pure) × (T.word s ≡ None)
+
+-- each cell is known to have the value of pure signals
+abbrev AreUnits : List Cell → Type 0
+AreUnits cs = AllByRecursion (λ (c : Cell). c ≡ cell.Known value.Unit) cs
+
+-- solved by these cells in both halves, with the value of pure signals where it is present
 pub record SolvedBy (cs : List Cell) (x : SigCell) : Type 0 where
   pub status : x.status ≡ status_by cs cs
   pub known : is_known x.value ≡ true
+  pub unit : is_present x.status ≡ true → x.value ≡ cell.Known value.Unit
 
 same_length : (n : ℕ) → (n == n) ≡ true
 same_length n = eq-eqb n n refl
@@ -40,10 +52,28 @@ value_known : (k : Kind) (w : Option CombineWord) (v : Value) (cs : List Cell) �
 value_known k w v [] h = refl
 value_known k w v (c ∷ cs) h = rw (same_length (length (c ∷ cs)), h) refl
 
-raised_by : (T : Table) (s : ℕ) (c : SigCell) (a : MustCan) (cs : List Cell) → all_known cs ≡ true → Has s a cs → SolvedBy cs (raised T s c a)
-raised_by T s c a cs h k = record {
+-- emissions of a pure signal combine to the value of pure signals
+units_combined : (cs : List Cell) → AreUnits cs → combined kind.Pure None (map (counts_as kind.Pure) cs) ≡ value.Unit
+units_combined [] u = refl
+units_combined (c ∷ []) u = rw u.0 refl
+units_combined (c ∷ d ∷ cs) u = refl
+
+value_unit : (k : Kind) (w : Option CombineWord) (v : Value) (cs : List Cell) → k ≡ kind.Pure → w ≡ None → all_known cs ≡ true → AreUnits cs
+    → is_present (status_by cs cs) ≡ true → value_by k w v cs cs ≡ cell.Known value.Unit
+value_unit k w v [] e f h u p = cc
+value_unit k w v (c ∷ cs) e f h u p = rw (same_length (length (c ∷ cs)), h) (ap cell.Known (by_kind ∙ by_word ∙ units_combined (c ∷ cs) u))
+  where
+    by_kind : combined k w (map (counts_as k) (c ∷ cs)) ≡ combined kind.Pure w (map (counts_as kind.Pure) (c ∷ cs))
+    by_kind = ap (λ j. combined j w (map (counts_as j) (c ∷ cs))) e
+
+    by_word : combined kind.Pure w (map (counts_as kind.Pure) (c ∷ cs)) ≡ combined kind.Pure None (map (counts_as kind.Pure) (c ∷ cs))
+    by_word = ap (λ x. combined kind.Pure x (map (counts_as kind.Pure) (c ∷ cs))) f
+
+raised_by : (T : Table) (s : ℕ) (c : SigCell) (a : MustCan) (cs : List Cell) → IsPureTable T → all_known cs ≡ true → AreUnits cs → Has s a cs → SolvedBy cs (raised T s c a)
+raised_by T s c a cs pure h u k = record {
   status = rw (k.must, k.can) refl;
   known = rw (k.must, k.can) (value_known (T.kind s) (T.word s) c.preval cs h);
+  unit = rw (k.must, k.can) (value_unit (T.kind s) (T.word s) c.preval cs (pure s).0 (pure s).1 h u);
 }
 
 pub bag_known : (s : ℕ) (ss : List ℕ) → all_known (cells_of s (bag_of ss)) ≡ true
@@ -53,6 +83,14 @@ bag_known s (r ∷ ss) = at_test (r == s) (bag_known s ss)
     at_test : (v : Bool) → all_known (cells_of s (bag_of ss)) ≡ true → all_known (cond v (cell.Known value.Unit ∷ cells_of s (bag_of ss)) (cells_of s (bag_of ss))) ≡ true
     at_test true h = h
     at_test false h = h
+
+bag_units : (s : ℕ) (ss : List ℕ) → AreUnits (cells_of s (bag_of ss))
+bag_units s [] = tt
+bag_units s (r ∷ ss) = at_test (r == s) (bag_units s ss)
+  where
+    at_test : (v : Bool) → AreUnits (cells_of s (bag_of ss)) → AreUnits (cond v (cell.Known value.Unit ∷ cells_of s (bag_of ss)) (cells_of s (bag_of ss)))
+    at_test true u = (refl, u)
+    at_test false u = u
 
 pub bag_outputs : (signals : List SignalDecl) (ss : List ℕ) → AreOutputs signals ss → OnlyOutputs signals (bag_of ss)
 bag_outputs signals [] h = tt
@@ -76,12 +114,17 @@ all_cells_known : (b : Bool) (cs : List Cell) → all_known cs ≡ true → all_
 all_cells_known true cs h = h
 all_cells_known false cs h = h
 
+all_cells_units : (b : Bool) (cs : List Cell) → AreUnits cs → AreUnits (given_cells b ++ cs)
+all_cells_units true cs u = (refl, u)
+all_cells_units false cs u = u
+
 pub status_given : (b : Bool) (cs : List Cell) → cs ≡ [] → status_by (given_cells b ++ cs) (given_cells b ++ cs) ≡ status_of b
 status_given true cs h = refl
 status_given false cs h = rw h refl
 
 module _
     (signals : List SignalDecl) (T : Table) (given : ℕ → Bool) (is : List (ℕ × Value)) (p : Env → MustCan) (ss : List ℕ)
+    (pure : IsPureTable T)
     (directed : (s : ℕ) → s < length signals → HasDirection signals s dir.Input ⊎ HasDirection signals s dir.Output)
     (as_given : (s : ℕ) → s < length signals → given_to is s ≡ value_given (given s))
     (outputs : AreOutputs signals ss)
@@ -131,7 +174,8 @@ module _
         let o : Outer = record { signal = k; last = l; given = given_to is k } in
         let q : Env → MustCan = nest T (outers_from (suc k) is ls) p in
         let c = round T k (λ F. with_given o (q F)) E (unsolved l.status l.val) in
-        raised_by T k c (with_given o (q (put E k c))) (all_cells given ss k) (all_cells_known (given k) (cells_of k (bag_of ss)) (bag_known k ss)) (with_given_has k l (q (put E k c)) b (body_has ls k E b d inner c))
+        let cs = cells_of k (bag_of ss) in
+        raised_by T k c (with_given o (q (put E k c))) (all_cells given ss k) pure (all_cells_known (given k) cs (bag_known k ss)) (all_cells_units (given k) cs (bag_units k ss)) (with_given_has k l (q (put E k c)) b (body_has ls k E b d inner c))
 
     decides_next : (k : ℕ) (E : Env) (x : SigCell) → DecidesBelow k E → SolvedBy (all_cells given ss k) x → DecidesBelow (suc k) (put E k x)
     decides_next k E x d h s lt i = at_test (same_or_not s k)

@@ -24,20 +24,16 @@ use Rattle.hh_term.specs.Statement.{Statement}
 use Rattle.hh_term.specs.Selection.{Selection, Control, Fresh, At, Ended, Start, Resume}
 use Rattle.hh_term.specs.Marks.{IsControlOf}
 use Rattle.hh_term.specs.MustCan.{Table, table_of, MustCan, Bag, Executed, must_can, cells_of, status_by}
-use Rattle.hh_term.specs.Step.{Stepped, leave, values_of}
+use Rattle.hh_term.specs.Step.{Stepped, leave, values_of, value_in}
 use Rattle.hh_term.specs.Touches.{marks_numbered}
-use Rattle.hh_term.specs.Reaction.{Last, Outer, Ran, Completes, Outcome, Undecided, Doubled, Faulted, first_declared, earlier, idle, given_bag, program_must_can, program_step, solved, undecided, leave_all, now_of, control_after, completed, judged, concluded, given_to, outers_from}
+use Rattle.hh_term.specs.Reaction.{Last, Outer, Now, Ran, Completes, Outcome, Undecided, Doubled, Faulted, first_declared, earlier, idle, given_bag, program_must_can, program_step, solved, undecided, leave_all, now_of, control_after, completed, judged, concluded, given_to, outers_from}
 use Rattle.sync_step.specs.Walk.{Walked, walk, Reacted, reacted, control_at, program_walk}
 use Rattle.sync_step.specs.Walking.{is_among, passing_below}
 use Rattle.sync_step.specs.Steps.{pure_inputs, is_output_at, present_outputs, IsStepOf}
 use Rattle.sync_step.proofs.WalkLaws.{bag_of, Decides, Does, walk_does, stepped_of, walk_steps}
 use Rattle.sync_step.proofs.WalkEnds.{AreOutputs, NextIn, Keeps, walk_keeps, numbered_same}
 use Rattle.sync_step.proofs.Bags.{not_same, Has, no_input, one_direction, emits_outputs}
-use Rattle.sync_step.proofs.Interface.{value_given, given_cells, SolvedBy, all_cells, solved_by, status_given, bag_outputs}
-
--- pure signals without a combine word
-abbrev IsPureTable : Table → Type 0
-IsPureTable T = (s : ℕ) → (T.kind s ≡ kind.Pure) × (T.word s ≡ None)
+use Rattle.sync_step.proofs.Interface.{IsPureTable, value_given, given_cells, SolvedBy, all_cells, solved_by, status_given, bag_outputs}
 
 no_several : (k : Kind) (w : Option CombineWord) (vs : List Value) → k ≡ kind.Pure → w ≡ None → is_several k w vs ≡ false
 no_several k w [] h g = rw (h, g) refl
@@ -103,6 +99,13 @@ present_from signals f is bag E (l ∷ ls) k h =
     at_flag : (v : Bool) → passing_below f k ++ cond v (k ∷ present_outputs signals (map (now_of E bag) (outers_from (suc k) is ls))) (present_outputs signals (map (now_of E bag) (outers_from (suc k) is ls))) ≡ (passing_below f k ++ cond v (k ∷ []) []) ++ present_outputs signals (map (now_of E bag) (outers_from (suc k) is ls))
     at_flag true = sym (append_assoc (passing_below f k) (k ∷ []) (present_outputs signals (map (now_of E bag) (outers_from (suc k) is ls))))
     at_flag false = sym (append_assoc (passing_below f k) [] (present_outputs signals (map (now_of E bag) (outers_from (suc k) is ls))))
+
+-- what is present among the interface signals from k on has the value of pure signals
+units_from : (is : List (ℕ × Value)) (bag : Bag) (E : Env) (ls : List Last) (k : ℕ)
+    → ((s : ℕ) → k ≤ s → s < k + length ls → is_present (E s).status ≡ true → (E s).value ≡ cell.Known value.Unit)
+    → AllByRecursion (λ (n : Now). n.status ≡ true → n.val ≡ value.Unit) (map (now_of E bag) (outers_from k is ls))
+units_from is bag E [] k h = tt
+units_from is bag E (l ∷ ls) k h = (λ p. ap (value_in (E k).preval) (h k (omega arith) (omega arith) p), units_from is bag E ls (suc k) (λ s a b. h s (omega arith) (omega arith)))
 
 -- a signal is present where it is emitted
 emitted_present : (s : ℕ) (ss : List ℕ) → is_present (status_by (cells_of s (bag_of ss)) (cells_of s (bag_of ss))) ≡ is_among ss s
@@ -271,7 +274,7 @@ module _
 
     all_solved : (before : List Last) → length before ≡ length K.signals → AreOutputs K.signals emissions → (s : ℕ) → s < length K.signals → SolvedBy (all_cells given emissions s) (environment before s)
     all_solved before e h s b =
-        solved_by K.signals (table_of K) given (pure_inputs inputs) (program_must_can (table_of K) K.statement c) emissions directed as_given h
+        solved_by K.signals (table_of K) given (pure_inputs inputs) (program_must_can (table_of K) K.statement c) emissions (pure_at K L.signals) directed as_given h
         (program_free K.signals (table_of K) K.statement c L.statement rests)
         (program_does K.signals (table_of K) given K.statement c L.statement rests)
         before 0 blank (omega arith) (λ r lt i. absurd (omega arith)) s (omega arith) b
@@ -304,6 +307,7 @@ module _
               ∙ judged_clear T os c last E r (pure_at K L.signals) run.faults run.doubled;
           interface = length_nows E r.stepped.bag os ∙ length_outers (pure_inputs inputs) before 0 ∙ same;
           signals = ap (passing_below f) (sym count) ∙ sym (present_from K.signals f (pure_inputs inputs) r.stepped.bag E before 0 here);
+          units = units_from (pure_inputs inputs) r.stepped.bag E before 0 (λ s a b. (y s (omega arith)).unit);
           code = sym run.code;
           next = sym run.next;
         }
