@@ -1,5 +1,12 @@
 //! The reader.
 
+ghost use Rattle.std.specs.Prelude.{◌≡◌, ◌↔◌, [], IfOk, IsTrue};
+ghost use Rattle.first_language.specs.declared.term.Program.{Program as AProgram};
+ghost use Rattle.first_language.specs.Parser as parser;
+ghost use Rattle.first_language.specs.Parser.{Reads};
+ghost use Rattle.first_language.specs.Reference as rule;
+ghost use Rattle.first_language.specs.Grammar.{Spells, Reading};
+
 use crate::name::Name;
 use crate::refusal::ReadRefusal;
 use crate::scope::Scope;
@@ -7,6 +14,7 @@ use crate::term::{self, Program, SignalDecl, Term, TermNode};
 use crate::token::{self, Kind, Token, same_kind};
 use sqlite_items::Items;
 use std::alloc::Global;
+use std::marker::Model;
 
 const MOST_OPEN: u8 = 128;
 
@@ -17,19 +25,45 @@ struct Reader<'a> {
     rest: &'a [Token],
 }
 
+impl<'a> Model for Reader<'a> {
+    ghost use Rattle.std.specs.Prelude.{List};
+    ghost use Rattle.first_language.specs.Words.{Tok};
+
+    ghost Value = { List Tok };
+
+    ghost use Rattle.first_language.specs.Cursor.{rest_of, AllInText};
+
+    ghost view = { rest_of };
+
+    ghost invariant = { AllInText };
+}
+
 impl<'a> Reader<'a> {
-    fn kind(&self) -> Kind {
+    fn kind(&self) -> Kind
+        ensures { result ≡ parser.kind_of self.now }
+    {
         match self.rest {
             [] => Kind::End,
             [token, ..] => token.kind,
         }
     }
 
-    fn sees(&self, kind: Kind) -> bool {
+    fn is_done(&self) -> bool
+        ensures { IsTrue result ↔ (self.now ≡ []) }
+    {
+        self.rest.is_empty()
+    }
+
+    fn sees(&self, kind: Kind) -> bool
+        ensures { result ≡ parser.same_kind (parser.kind_of self.now) kind }
+    {
         same_kind(self.kind(), kind)
     }
 
-    fn take(&mut self, kind: Kind) -> Result<u32, ReadRefusal> {
+    #[tactic(auto, unfolding(crate::specs::Parser::take))]
+    fn take(&mut self, kind: Kind) -> Result<u32, ReadRefusal>
+        ensures { Reads (parser.take kind self.old) result self.new }
+    {
         match self.rest {
             [token, rest @ ..] if same_kind(token.kind, kind) => {
                 self.rest = rest;
@@ -39,7 +73,10 @@ impl<'a> Reader<'a> {
         }
     }
 
-    fn name(&mut self) -> Result<(u32, Name), ReadRefusal> {
+    #[tactic(auto, unfolding(crate::specs::Parser::name))]
+    fn name(&mut self) -> Result<(u32, Name), ReadRefusal>
+        ensures { Reads (parser.name self.old) result self.new }
+    {
         match self.rest {
             [token, rest @ ..] if is_name(token.kind) => {
                 let bytes = &self.text[token.start as usize..token.end as usize];
@@ -54,7 +91,10 @@ impl<'a> Reader<'a> {
         }
     }
 
-    fn direction(&mut self) -> Result<bool, ReadRefusal> {
+    #[tactic(auto, unfolding(crate::specs::Reference::direction))]
+    fn direction(&mut self) -> Result<bool, ReadRefusal>
+        ensures { Reads (rule.direction self.old) result self.new }
+    {
         if self.sees(Kind::In) {
             self.take(Kind::In)?;
             return Ok(false);
@@ -63,7 +103,10 @@ impl<'a> Reader<'a> {
         Ok(true)
     }
 
-    fn declaration(&mut self) -> Result<SignalDecl, ReadRefusal> {
+    #[tactic(auto, unfolding(crate::specs::Reference::declaration))]
+    fn declaration(&mut self) -> Result<SignalDecl, ReadRefusal>
+        ensures { Reads (rule.declaration self.old) result self.new }
+    {
         let is_output = self.direction()?;
         let (pos, name) = self.name()?;
         Ok(SignalDecl {
@@ -73,12 +116,18 @@ impl<'a> Reader<'a> {
         })
     }
 
-    fn next_declaration(&mut self) -> Result<SignalDecl, ReadRefusal> {
+    #[tactic(auto, unfolding(crate::specs::Reference::next_declaration))]
+    fn next_declaration(&mut self) -> Result<SignalDecl, ReadRefusal>
+        ensures { Reads (rule.next_declaration self.old) result self.new }
+    {
         self.take(Kind::Comma)?;
         self.declaration()
     }
 
-    fn listed(&mut self) -> Result<Items<SignalDecl>, ReadRefusal> {
+    #[tactic(auto, unfolding(crate::specs::Reference::listed))]
+    fn listed(&mut self) -> Result<Items<SignalDecl>, ReadRefusal>
+        ensures { Reads (rule.listed self.old) result self.new }
+    {
         let first = self.declaration()?;
         let mut list = Items::new(self.alloc);
         list.push(first)?;
@@ -89,7 +138,10 @@ impl<'a> Reader<'a> {
         Ok(list)
     }
 
-    fn declarations(&mut self) -> Result<Items<SignalDecl>, ReadRefusal> {
+    #[tactic(auto, unfolding(crate::specs::Reference::declarations))]
+    fn declarations(&mut self) -> Result<Items<SignalDecl>, ReadRefusal>
+        ensures { Reads (rule.declarations self.old) result self.new }
+    {
         if begins_declaration(self.kind()) {
             self.listed()
         } else {
@@ -98,7 +150,10 @@ impl<'a> Reader<'a> {
     }
 
     /// A name, and the place of the output or input that it names.
-    fn signal(&mut self, scope: &Scope, is_output: bool) -> Result<(u32, u32), ReadRefusal> {
+    #[tactic(auto, unfolding(crate::specs::Reference::signal, crate::specs::Parser::given))]
+    fn signal(&mut self, scope: &Scope, is_output: bool) -> Result<(u32, u32), ReadRefusal>
+        ensures { Reads (rule.signal scope.now is_output self.old) result self.new }
+    {
         let (pos, name) = self.name()?;
         match scope.find(name.as_str(), is_output) {
             Some(place) => Ok((pos, place)),
@@ -106,7 +161,10 @@ impl<'a> Reader<'a> {
         }
     }
 
-    fn pause(&mut self) -> Result<Term, ReadRefusal> {
+    #[tactic(auto, unfolding(crate::specs::Reference::pause))]
+    fn pause(&mut self) -> Result<Term, ReadRefusal>
+        ensures { Reads (rule.pause self.old) result self.new }
+    {
         let pos = self.take(Kind::Pause)?;
         self.take(Kind::Semicolon)?;
         Ok(Term {
@@ -115,7 +173,10 @@ impl<'a> Reader<'a> {
         })
     }
 
-    fn emit(&mut self, scope: &Scope) -> Result<Term, ReadRefusal> {
+    #[tactic(auto, unfolding(crate::specs::Reference::emit))]
+    fn emit(&mut self, scope: &Scope) -> Result<Term, ReadRefusal>
+        ensures { Reads (rule.emit scope.now self.old) result self.new }
+    {
         let pos = self.take(Kind::Emit)?;
         let (_, signal) = self.signal(scope, true)?;
         self.take(Kind::Semicolon)?;
@@ -126,7 +187,10 @@ impl<'a> Reader<'a> {
     }
 
     /// A test in round brackets, where so many brackets may still be opened.
-    fn test(&mut self, scope: &Scope, room: u8) -> Result<(u32, u32), ReadRefusal> {
+    #[tactic(auto, unfolding(crate::specs::Reference::test))]
+    fn test(&mut self, scope: &Scope, room: u8) -> Result<(u32, u32), ReadRefusal>
+        ensures { Reads (rule.test scope.now room self.old) result self.new }
+    {
         if room == 0 {
             return Err(ReadRefusal::NotBuilt);
         }
@@ -139,7 +203,10 @@ impl<'a> Reader<'a> {
     }
 
     #[cycle(statement)]
-    fn other(&mut self, scope: &Scope, room: u8, pos: u32) -> Result<Term, ReadRefusal> {
+    #[tactic(auto, unfolding(crate::specs::Reference::other, crate::specs::Reference::other_block))]
+    fn other(&mut self, scope: &Scope, room: u8, pos: u32) -> Result<Term, ReadRefusal>
+        ensures { Reads (rule.other (rule.block scope.now room) pos self.old) result self.new }
+    {
         if !self.sees(Kind::Else) {
             return Ok(term::nothing(pos));
         }
@@ -148,7 +215,10 @@ impl<'a> Reader<'a> {
     }
 
     #[cycle(statement)]
-    fn choice(&mut self, scope: &Scope, room: u8) -> Result<Term, ReadRefusal> {
+    #[tactic(auto, unfolding(crate::specs::Reference::choice))]
+    fn choice(&mut self, scope: &Scope, room: u8) -> Result<Term, ReadRefusal>
+        ensures { Reads (rule.choice (rule.test scope.now room) (rule.block scope.now room) self.old) result self.new }
+    {
         let pos = self.take(Kind::If)?;
         let (test, signal) = self.test(scope, room)?;
         let then = self.block(scope, room)?;
@@ -158,7 +228,10 @@ impl<'a> Reader<'a> {
     }
 
     #[cycle(statement)]
-    fn statement(&mut self, scope: &Scope, room: u8) -> Result<Term, ReadRefusal> {
+    #[tactic(auto, unfolding(crate::specs::Reference::statement))]
+    fn statement(&mut self, scope: &Scope, room: u8) -> Result<Term, ReadRefusal>
+        ensures { Reads (rule.statement_in scope.now room self.old) result self.new }
+    {
         match self.kind() {
             Kind::Pause => self.pause(),
             Kind::Emit => self.emit(scope),
@@ -167,7 +240,9 @@ impl<'a> Reader<'a> {
     }
 
     #[cycle(statement)]
-    fn statements(&mut self, scope: &Scope, room: u8) -> Result<Items<Term>, ReadRefusal> {
+    fn statements(&mut self, scope: &Scope, room: u8) -> Result<Items<Term>, ReadRefusal>
+        ensures { Reads (parser.many rule.begins_statement (rule.statement_in scope.now room) self.old) result self.new }
+    {
         let mut list = Items::new(self.alloc);
         'each: while begins_statement(self.kind()) {
             let statement = self.statement(scope, room)?;
@@ -178,7 +253,10 @@ impl<'a> Reader<'a> {
 
     /// A block, where so many brackets may still be opened.
     #[cycle(statement)]
-    fn block(&mut self, scope: &Scope, room: u8) -> Result<Term, ReadRefusal> {
+    #[tactic(auto, unfolding(crate::specs::Reference::block))]
+    fn block(&mut self, scope: &Scope, room: u8) -> Result<Term, ReadRefusal>
+        ensures { Reads (rule.block scope.now room self.old) result self.new }
+    {
         if room == 0 {
             return Err(ReadRefusal::NotBuilt);
         }
@@ -189,33 +267,49 @@ impl<'a> Reader<'a> {
         Ok(block)
     }
 
-    fn module(&mut self) -> Result<Program, ReadRefusal> {
+    #[tactic(auto, unfolding(crate::specs::Reference::body, crate::specs::Parser::given))]
+    fn body(&mut self, signals: &[SignalDecl]) -> Result<Term, ReadRefusal>
+        ensures { Reads (rule.body signals.now self.old) result self.new }
+    {
+        let scope = Scope::new(self.alloc, signals)?;
+        self.block(&scope, MOST_OPEN)
+    }
+
+    #[tactic(auto, unfolding(crate::specs::Reference::module_of))]
+    fn module(&mut self) -> Result<Program, ReadRefusal>
+        ensures { Reads (rule.module_of self.old) result self.new }
+    {
         self.take(Kind::Module)?;
         self.name()?;
         self.take(Kind::LeftParen)?;
         let signals = self.declarations()?;
         self.take(Kind::RightParen)?;
-        let scope = Scope::new(self.alloc, signals.as_slice())?;
-        let term = self.block(&scope, MOST_OPEN)?;
+        let term = self.body(signals.as_slice())?;
         Ok(Program { signals, term })
     }
 }
 
-fn is_name(kind: Kind) -> bool {
+fn is_name(kind: Kind) -> bool
+    ensures { result ≡ parser.is_name kind }
+{
     match kind {
         Kind::Name | Kind::Now => true,
         _ => false,
     }
 }
 
-fn begins_declaration(kind: Kind) -> bool {
+fn begins_declaration(kind: Kind) -> bool
+    ensures { result ≡ rule.begins_declaration kind }
+{
     match kind {
         Kind::In | Kind::Out => true,
         _ => false,
     }
 }
 
-fn begins_statement(kind: Kind) -> bool {
+fn begins_statement(kind: Kind) -> bool
+    ensures { result ≡ rule.begins_statement kind }
+{
     match kind {
         Kind::Pause | Kind::Emit | Kind::If => true,
         _ => false,
@@ -223,7 +317,11 @@ fn begins_statement(kind: Kind) -> bool {
 }
 
 /// The program that a module text spells.
-pub fn read_module(alloc: Global, text: &[u8]) -> Result<Program, ReadRefusal> {
+pub fn read_module(alloc: Global, text: &[u8]) -> Result<Program, ReadRefusal>
+    ensures found { IfOk result (λ p. Spells text.now p) }
+    ensures only { (p : AProgram) → Spells text.now p → Reading p result }
+    ensures not_built { result ≡ Err ReadRefusal.NotBuilt → (p : AProgram) → ¬ Spells text.now p }
+{
     if text.len() > u32::MAX as usize {
         return Err(ReadRefusal::NotBuilt);
     }
@@ -234,7 +332,7 @@ pub fn read_module(alloc: Global, text: &[u8]) -> Result<Program, ReadRefusal> {
         rest: tokens.as_slice(),
     };
     let program = reader.module()?;
-    if !reader.rest.is_empty() || !term::is_within_limits(&program.term) {
+    if !reader.is_done() || !term::is_within_limits(&program.term) {
         return Err(ReadRefusal::NotBuilt);
     }
     Ok(program)

@@ -1,6 +1,7 @@
 //! What a text spells: signals and a statement of the kernel.
 
-ghost use Rattle.std.specs.Prelude.{◌≡◌, ◌≤◌, ◌-◌, ◌<◌, ◌×◌, IfOk, List, take, drop, length, IsTrue};
+ghost use Rattle.std.specs.Prelude.{◌≡◌, ◌↔◌, ◌<◌, ◌≤◌, ◌-◌, ◌+◌, IfOk, MatchOption, take, drop, length, IsTrue};
+ghost use Rattle.first_language.specs.Kernel as kernel;
 
 use crate::name::Name;
 use crate::refusal::ReadRefusal;
@@ -41,14 +42,18 @@ const MOST_NODES: u32 = 65_536;
 
 const MOST_HEIGHT: u32 = 1_024;
 
-pub fn nothing(pos: u32) -> Term {
+pub fn nothing(pos: u32) -> Term
+    ensures { result ≡ kernel.nothing pos }
+{
     Term {
         pos,
         node: TermNode::Nothing,
     }
 }
 
-pub fn seq(alloc: Global, first: Term, second: Term) -> Result<Term, AllocError> {
+pub fn seq(alloc: Global, first: Term, second: Term) -> Result<Term, AllocError>
+    ensures { IfOk result (λ t. t ≡ kernel.seq first second) }
+{
     Ok(Term {
         pos: first.pos,
         node: TermNode::Seq(Boxed::new(alloc, first)?, Boxed::new(alloc, second)?),
@@ -62,7 +67,9 @@ pub fn choice(
     signal: u32,
     then: Term,
     other: Term,
-) -> Result<Term, AllocError> {
+) -> Result<Term, AllocError>
+    ensures { IfOk result (λ t. t ≡ kernel.choice pos (test, signal) then other) }
+{
     Ok(Term {
         pos,
         node: TermNode::If(
@@ -80,8 +87,14 @@ fn join_last(
     list: &mut Items<Term>,
     pos: u32,
     count: usize,
-) -> Result<Term, AllocError> {
-    if count < 2 {
+) -> Result<Term, AllocError>
+    requires { count ≤ length list.old }
+    ensures { IfOk result (λ t. (list.new ≡ take (length list.old - count) list.old) × (t ≡ kernel.join pos (drop (length list.old - count) list.old))) }
+{
+    if count == 0 {
+        return Ok(nothing(pos));
+    }
+    if count == 1 {
         return Ok(list.pop().unwrap_or(nothing(pos)));
     }
     let half = count / 2;
@@ -91,14 +104,18 @@ fn join_last(
 }
 
 /// The statements of a block, one after the other.
-pub fn join(alloc: Global, pos: u32, list: Items<Term>) -> Result<Term, AllocError> {
+pub fn join(alloc: Global, pos: u32, list: Items<Term>) -> Result<Term, AllocError>
+    ensures { IfOk result (λ t. t ≡ kernel.join pos list) }
+{
     let mut list = list;
     let count = list.len();
     join_last(alloc, &mut list, pos, count)
 }
 
 /// What is left of this room behind the nodes of the statement.
-fn room_behind(term: &Term, room: u32) -> Option<u32> {
+fn room_behind(term: &Term, room: u32) -> Option<u32>
+    ensures { MatchOption result (room < kernel.size_of term.now) (λ left. left + kernel.size_of term.now ≡ room) }
+{
     let room = room.checked_sub(1)?;
     match &term.node {
         TermNode::Nothing | TermNode::Pause | TermNode::Emit(_) => Some(room),
@@ -115,7 +132,9 @@ fn room_behind(term: &Term, room: u32) -> Option<u32> {
 }
 
 /// Whether the statement is at most so high.
-fn is_within_height(term: &Term, height: u32) -> bool {
+fn is_within_height(term: &Term, height: u32) -> bool
+    ensures { IsTrue result ↔ (kernel.height_of term.now ≤ height) }
+{
     if height == 0 {
         return false;
     }
@@ -127,6 +146,8 @@ fn is_within_height(term: &Term, height: u32) -> bool {
     }
 }
 
-pub fn is_within_limits(term: &Term) -> bool {
+pub fn is_within_limits(term: &Term) -> bool
+    ensures { IsTrue result ↔ ((kernel.height_of term.now ≤ 1024) × (kernel.size_of term.now ≤ 65536)) }
+{
     is_within_height(term, MOST_HEIGHT) && room_behind(term, MOST_NODES).is_some()
 }

@@ -1,5 +1,15 @@
 //! The words and marks of a text.
 
+ghost use Rattle.std.specs.Prelude.{◌≡◌, ◌≤◌, ◌<◌, ◌^◌, ◌++◌, true, ℕ, List, All, length, drop, slice_range, IfOk, IfSome, IsNone, MatchResult};
+ghost use Rattle.std.specs.List.{AllByRecursion};
+ghost use Rattle.first_language.specs.declared.token.Kind.{Kind as AKind};
+ghost use Rattle.first_language.specs.Words.{Tok};
+ghost use Rattle.first_language.specs.Cursor.{toks, InText};
+ghost use Rattle.first_language.specs.Scanned.{IsTokenAt};
+ghost use Rattle.std.specs.Str.{bytes_eq};
+ghost use Rattle.first_language.specs.Parser as parser;
+ghost use Rattle.first_language.specs.Words as words;
+
 use crate::refusal::ReadRefusal;
 use std::alloc::Global;
 
@@ -35,15 +45,13 @@ pub struct Token {
 const LONGEST: usize = 255;
 
 /// The keywords of the whole language that mean nothing in the first.
-const OTHER_KEYWORDS: [&str; 34] = [
-    "inout", "body", "host", "signal", "nothing", "halt", "sustain", "loop", "fork", "par",
-    "await", "every", "do", "abort", "weakabort", "suspend", "immediate", "count", "trap",
-    "break", "run", "async", "call", "kill", "resume", "combine", "pure", "int", "bool", "text",
-    "true", "false", "", "",
+const OTHER_KEYWORDS: [&[u8]; 32] = [
+    b"inout", b"body", b"host", b"signal", b"nothing", b"halt", b"sustain", b"loop", b"fork", b"par", b"await", b"every", b"do", b"abort", b"weakabort", b"suspend", b"immediate", b"count", b"trap", b"break", b"run", b"async", b"call", b"kill", b"resume", b"combine", b"pure", b"int", b"bool", b"text", b"true", b"false",
 ];
 
 impl Kind {
     pub fn class(self) -> u8
+        ensures { result ≡ parser.class self }
     {
         match self {
             Kind::End => 0,
@@ -69,26 +77,31 @@ impl Kind {
 }
 
 pub fn same_kind(a: Kind, b: Kind) -> bool
+    ensures { result ≡ parser.same_kind a b }
 {
     a.class() == b.class()
 }
 
 fn is_blank(byte: u8) -> bool
+    ensures { result ≡ words.is_blank byte }
 {
     byte == b' ' || byte == b'\t' || byte == b'\r' || byte == b'\n'
 }
 
 fn starts_word(byte: u8) -> bool
+    ensures { result ≡ words.starts_word byte }
 {
     byte.is_ascii_alphabetic() || byte == b'_'
 }
 
 fn continues_word(byte: u8) -> bool
+    ensures { result ≡ words.continues_word byte }
 {
     starts_word(byte) || byte.is_ascii_digit()
 }
 
 fn mark_of(byte: u8) -> Option<Kind>
+    ensures { result ≡ words.mark_of byte }
 {
     match byte {
         b'(' => Some(Kind::LeftParen),
@@ -102,12 +115,22 @@ fn mark_of(byte: u8) -> Option<Kind>
     }
 }
 
+#[tactic(auto, unfolding(crate::specs::Words::is_other_keyword))]
+fn is_other_keyword(word: &[u8]) -> bool
+    ensures { result ≡ words.is_other_keyword word.now }
+{
+    OTHER_KEYWORDS.contains(&word)
+}
+
 fn is_word(bytes: &[u8], word: &str) -> bool
+    ensures { result ≡ bytes_eq bytes.now word.now }
 {
     bytes == word.as_bytes()
 }
 
+#[tactic(auto, unfolding(crate::specs::Words::word_kind))]
 fn word_kind(word: &[u8]) -> Kind
+    ensures { result ≡ words.word_kind word.now }
 {
     if is_word(word, "module") {
         return Kind::Module;
@@ -133,7 +156,7 @@ fn word_kind(word: &[u8]) -> Kind
     if is_word(word, "now") {
         return Kind::Now;
     }
-    if OTHER_KEYWORDS.iter().any(|keyword| is_word(word, keyword)) {
+    if is_other_keyword(word) {
         return Kind::Keyword;
     }
     Kind::Name
@@ -141,6 +164,11 @@ fn word_kind(word: &[u8]) -> Kind
 
 /// The end of the run of bytes of words that begins at this place.
 fn word_end(text: &[u8], start: usize) -> usize
+    requires { start ≤ length text.now }
+    ensures from { start ≤ result }
+    ensures within { result ≤ length text.now }
+    ensures run { AllByRecursion (λ b. words.continues_word b ≡ true) (slice_range text.now start result) }
+    ensures ends { words.EndsWord (drop result text.now) }
 {
     let mut end = start;
     'each: while end < text.len() && continues_word(text[end]) {
@@ -151,6 +179,10 @@ fn word_end(text: &[u8], start: usize) -> usize
 
 /// The token that begins at this place.
 fn token_at(text: &[u8], start: usize) -> Option<Token>
+    requires inside { start < length text.now }
+    requires short { length text.now < 2 ^ 32 }
+    ensures found { IfSome result (λ t. IsTokenAt text.now start t) }
+    ensures none { IsNone result → (word : List ℕ) (kind : AKind) (rest : List ℕ) → drop start text.now ≡ word ++ rest → ¬ words.IsToken word kind rest }
 {
     if let Some(kind) = mark_of(text[start]) {
         return Some(Token {
@@ -175,6 +207,10 @@ fn token_at(text: &[u8], start: usize) -> Option<Token>
 
 /// The tokens of a text.
 pub fn tokens(alloc: Global, text: &[u8]) -> Result<Vec<Token>, ReadRefusal>
+    requires { length text.now < 2 ^ 32 }
+    ensures found { IfOk result (λ ts. words.Tokens 0 text.now (toks text.now ts.items)) }
+    ensures only { (ts : List Tok) → words.Tokens 0 text.now ts → MatchResult result (λ found. toks text.now found.items ≡ ts) (λ e. e ≡ ReadRefusal.NoMemory) }
+    ensures in_text { IfOk result (λ ts. All (InText text.now) ts.items) }
 {
     let mut tokens = Vec::new(alloc);
     let mut at = 0;
