@@ -5,3 +5,4 @@ pub mod Slices
 pub mod Halves
 pub mod Signals
 pub mod Words
+pub mod Texts

@@ -1,15 +1,22 @@
 -- The tokens of a text, one after the other.
-use Rattle.std.proofs.Common.{◌≡◌, ℕ, zero, suc, ◌+◌, ◌-◌, ◌<◌, ◌≤◌, Bool, true, false, cond, List, [], ◌∷◌, ◌++◌, length, Option, Some, None, ◌⊎◌, inl, inr, refl, sym, ap, subst, ◌∙◌, append_assoc, add_assoc, arith}
-use Rattle.std.specs.Prelude.{◌==◌, ◌||◌}
+use Rattle.std.proofs.Common.{◌≡◌, ℕ, zero, suc, ◌+◌, ◌-◌, ◌<◌, ◌≤◌, Bool, true, false, cond, List, [], ◌∷◌, ◌++◌, length, Option, Some, None, ◌⊎◌, inl, inr, refl, sym, ap, subst, ◌∙◌, append_assoc, add_assoc, arith, take, drop, get_or, All, ltb}
+use Rattle.std.specs.Prelude.{◌==◌, ◌||◌, slice_range}
 use Rattle.std.specs.List.{AllByRecursion}
 use Rattle.std.specs.Int.{is_in_range}
 use Rattle.std.specs.Str.{IsAscii}
 use Rattle.std.proofs.lemmas.Bool.{eqb-true}
 use Rattle.std.proofs.lemmas.Bool.Decides.{nat_tests}
-use Rattle.std.proofs.lemmas.List.{append_cancel_left, length-append}
+use Rattle.std.proofs.lemmas.Bool.{ltb-true, ltb-false}
+use Rattle.std.proofs.lemmas.List.{append-nil, map-append, length-take, length-drop, drop_more, drop_all}
+use Rattle.std.proofs.lemmas.List.Elements.{All-append, All-cons, All-nil}
+use Rattle.std.proofs.lemmas.List.Folds.{drop_split}
+use Rattle.std.proofs.lemmas.Str.{IsUtf8-from_ascii}
 use Rattle.std.proofs.lemmas.Str.Ascii.{IsAscii-nil, IsAscii-cons}
 use Rattle.first_language.specs.declared.token.Kind.{Kind}
 use Rattle.first_language.specs.declared.token.Kind.TheVariants as k
+use Rattle.first_language.specs.declared.token.Token.{Token}
+use Rattle.first_language.specs.Cursor.{tok, toks, InText}
+use Rattle.first_language.specs.Scanned.{IsTokenAt}
 use Rattle.first_language.specs.Words.{Tok, is_blank, starts_word, continues_word, mark_of, word_kind, EndsWord, IsMark, IsWord, IsToken, AllBlank, Tokens}
 
 -- ---- bytes
@@ -176,8 +183,136 @@ pub no_token : {X : Type 0} (at b : ℕ) (bs : List ℕ) (ts : List Tok) → is_
 no_token at b bs [] e none h = no_both (is_blank b) h.0 e
 no_token at b bs (t ∷ ts) e none h = no_token_by at b bs t ts h.0 h.1 e none h.2 h.3 h.5
 
--- tokens of which the first were found, and the others are those of the text behind them
-pub record Behind (at : ℕ) (text : List ℕ) (found ts : List Tok) : Type 0 where
-  pub others : List Tok
-  pub split : ts ≡ found ++ others
-  pub later : Tokens at text others
+-- ---- a word by its place in a text
+
+-- a run of bytes of a word in a text, which begins with one that begins a word
+pub record IsRun (text : List ℕ) (start end : ℕ) : Type 0 where
+  pub inside : start < length text
+  pub from : start ≤ end
+  pub within : end ≤ length text
+  pub starts : starts_word (get_or text start 0) ≡ true
+  pub run : Runs (slice_range text start end)
+  pub ends : EndsWord (drop end text)
+
+starts_continues : (b : ℕ) → starts_word b ≡ true → continues_word b ≡ true
+starts_continues b e = or_true (starts_word b) (is_in_range 48 57 b) e
+  where
+    or_true : (x y : Bool) → x ≡ true → (x || y) ≡ true
+    or_true true y e = refl
+    or_true false y e = absurd (let no : ⊥ = cc in no)
+
+length_range : (text : List ℕ) (i j : ℕ) → j ≤ length text → length (slice_range text i j) ≡ j - i
+length_range text i j le = omega (arith, length-take (j - i) (drop i text), length-drop i text)
+
+-- the run is all of it that a token can be
+run_whole : (text : List ℕ) (start end : ℕ) (word : List ℕ) (kind : Kind) (rest : List ℕ) → IsRun text start end → drop start text ≡ word ++ rest → IsToken word kind rest → (word ≡ slice_range text start end) × (length word ≤ 255)
+run_whole text start end word kind rest r e (inl x) =
+    let front : get_or text start 0 ∷ drop (start + 1) text ≡ x.0 ∷ rest = sym (drop_more text start 0 r.inside) ∙ e ∙ ap (λ w. w ++ rest) x.1 in
+    let head : get_or text start 0 ≡ x.0 = cc in
+    no_both (starts_word (get_or text start 0)) r.starts (subst (λ b. starts_word b ≡ false) (sym head) (mark_plain x.0 kind x.2).0)
+run_whole text start end word kind rest r e (inr x) =
+    let runs : Runs word = subst Runs (sym x.2) (starts_continues x.0 x.3, x.4) in
+    let same = run_same word (slice_range text start end) rest (drop end text) runs r.run x.7 r.ends (sym e ∙ drop_split text start end r.from) in
+    (same.0, x.5)
+
+pub run_long : (text : List ℕ) (start end : ℕ) → IsRun text start end → 255 < end - start → (word : List ℕ) (kind : Kind) (rest : List ℕ) → drop start text ≡ word ++ rest → IsToken word kind rest → ⊥
+run_long text start end r long word kind rest e is =
+    let whole = run_whole text start end word kind rest r e is in
+    let size : length word ≡ end - start = ap length whole.0 ∙ length_range text start end r.within in
+    omega (arith, whole.1)
+
+run_some : (text : List ℕ) (start end : ℕ) → IsRun text start end → start < end
+run_some text start end r = by_order (ltb start end) refl
+  where
+    by_order : (b : Bool) → ltb start end ≡ b → start < end
+    by_order true e = ltb-true start end e
+    by_order false e =
+        let same : end ≡ start = omega (arith, ltb-false start end e, r.from) in
+        let front : drop end text ≡ get_or text start 0 ∷ drop (start + 1) text = ap (λ n. drop n text) same ∙ drop_more text start 0 r.inside in
+        run_past (get_or text start 0) (drop end text) (drop (start + 1) text) (starts_continues (get_or text start 0) r.starts) front r.ends
+
+pub run_token : (text : List ℕ) (start end : ℕ) (kind : Kind) → IsRun text start end → end - start ≤ 255 → kind ≡ word_kind (slice_range text start end) → IsTokenAt text start (record { start = start; «end» = end; kind = kind })
+run_token text start end kind r short e =
+    let some = run_some text start end r in
+    let bs = take (end - start - 1) (drop (start + 1) text) in
+    let count : end - start ≡ suc (end - start - 1) = omega arith in
+    let split : slice_range text start end ≡ get_or text start 0 ∷ bs = ap (take (end - start)) (drop_more text start 0 r.inside) ∙ ap (λ n. take n (get_or text start 0 ∷ drop (start + 1) text)) count in
+    let runs : Runs (get_or text start 0 ∷ bs) = subst Runs split r.run in
+    record {
+      start = refl;
+      some = some;
+      within = r.within;
+      spells = inr (get_or text start 0, bs, split, r.starts, runs.1, omega (arith, length_range text start end r.within), e, r.ends);
+    }
+
+-- ---- the tokens found so far
+
+-- The tokens of the text are those that were found and those of what stands behind them.
+pub record Scan (text : List ℕ) (at : ℕ) (items : List Token) : Type 0 where
+  pub within : at ≤ length text
+  pub in_text : All (InText text) items
+  pub whole : (ts : List Tok) → Tokens at (drop at text) ts → Tokens 0 text (toks text items ++ ts)
+  pub only : (ts : List Tok) → Tokens 0 text ts → (others : List Tok) × (ts ≡ toks text items ++ others) × Tokens at (drop at text) others
+
+pub scan_start : (text : List ℕ) → Scan text 0 []
+scan_start text = record { within = omega arith; in_text = All-nil (InText text); whole = λ ts h. h; only = λ ts h. (ts, refl, h) }
+
+pub scan_blank : (text : List ℕ) (at : ℕ) (items : List Token) → Scan text at items → at < length text → is_blank (get_or text at 0) ≡ true → Scan text (at + 1) items
+scan_blank text at items s lt blank =
+    let split : drop at text ≡ get_or text at 0 ∷ drop (at + 1) text = drop_more text at 0 lt in
+    record {
+      within = omega arith;
+      in_text = s.in_text;
+      whole = λ ts h. s.whole ts (subst (λ x. Tokens at x ts) (sym split) (blank_to at (get_or text at 0) (drop (at + 1) text) ts blank h));
+      only = λ ts h. let x = s.only ts h in (x.0, x.1, blank_back at (get_or text at 0) (drop (at + 1) text) x.0 blank (subst (λ y. Tokens at y x.0) split x.2));
+    }
+
+toks_push : (text : List ℕ) (items : List Token) (t : Token) (ts : List Tok) → toks text (items ++ t ∷ []) ++ ts ≡ toks text items ++ (tok text t ∷ ts)
+toks_push text items t ts = ap (λ x. x ++ ts) (map-append (tok text) items (t ∷ [])) ∙ append_assoc (toks text items) (tok text t ∷ []) ts
+
+pub scan_token : (text : List ℕ) (at : ℕ) (items : List Token) (t : Token) → Scan text at items → IsTokenAt text at t → Scan text t.«end» (items ++ t ∷ [])
+scan_token text at items t s is =
+    let word = slice_range text t.start t.«end» in
+    let split : drop at text ≡ word ++ drop t.«end» text = subst (λ n. drop n text ≡ word ++ drop t.«end» text) is.start (drop_split text t.start t.«end» (omega (arith, is.some))) in
+    let size : at + length word ≡ t.«end» = omega (arith, length_range text t.start t.«end» is.within, is.start, is.some) in
+    let same : tok_at at t.kind word ≡ tok text t = rw (← is.start) refl in
+    record {
+      within = is.within;
+      in_text = All-append (InText text) items (t ∷ []) s.in_text (All-cons (InText text) t [] (record { start = omega (arith, is.some); finish = is.within; utf8 = IsUtf8-from_ascii word (token_ascii word t.kind (drop t.«end» text) is.spells) }) (All-nil (InText text)));
+      whole = λ ts h.
+          let later : Tokens (at + length word) (drop t.«end» text) ts = subst (λ n. Tokens n (drop t.«end» text) ts) (sym size) h in
+          let here : Tokens at (drop at text) (tok_at at t.kind word ∷ ts) = subst (λ x. Tokens at x (tok_at at t.kind word ∷ ts)) (sym split) (token_to at word t.kind (drop t.«end» text) ts is.spells later) in
+          subst (Tokens 0 text) (sym (toks_push text items t ts)) (s.whole (tok text t ∷ ts) (subst (λ x. Tokens at (drop at text) (x ∷ ts)) same here));
+      only = λ ts h.
+          let x = s.only ts h in
+          let n = token_back at word t.kind (drop t.«end» text) x.0 is.spells (subst (λ y. Tokens at y x.0) split x.2) in
+          (n.others, x.1 ∙ ap (λ y. toks text items ++ y) (n.split ∙ ap (λ y. y ∷ n.others) same) ∙ sym (toks_push text items t n.others), subst (λ m. Tokens m (drop t.«end» text) n.others) size n.later);
+    }
+
+pub scan_fails : (text : List ℕ) (at : ℕ) (items : List Token) → Scan text at items → at < length text → is_blank (get_or text at 0) ≡ false → ((word : List ℕ) (kind : Kind) (rest : List ℕ) → drop at text ≡ word ++ rest → ¬ IsToken word kind rest)
+    → (ts : List Tok) → Tokens 0 text ts → ⊥
+scan_fails text at items s lt blank none ts h =
+    let split : drop at text ≡ get_or text at 0 ∷ drop (at + 1) text = drop_more text at 0 lt in
+    let x = s.only ts h in
+    no_token at (get_or text at 0) (drop (at + 1) text) x.0 blank (λ word kind rest e. none word kind rest (split ∙ e)) (subst (λ y. Tokens at y x.0) split x.2)
+
+pub scan_found : (text : List ℕ) (at : ℕ) (items : List Token) → Scan text at items → length text ≤ at → Tokens 0 text (toks text items)
+scan_found text at items s le =
+    let none : drop at text ≡ [] = drop_all at text le in
+    subst (Tokens 0 text) (append-nil (toks text items)) (s.whole [] (subst (λ x. Tokens at x []) (sym none) tt))
+
+nil_tokens : (at : ℕ) (ts : List Tok) → Tokens at [] ts → ts ≡ []
+nil_tokens at [] h = refl
+nil_tokens at (t ∷ ts) h = token_some t.text t.kind h.1 h.0 h.5 h.2
+  where
+    token_some : {X : Type 0} (word : List ℕ) (kind : Kind) (rest gap : List ℕ) → IsToken word kind rest → [] ≡ gap ++ (word ++ rest) → X
+    token_some word kind rest (g ∷ gap) is e = absurd (let no : ⊥ = cc in no)
+    token_some word kind rest [] (inl x) e = absurd (let front : [] ≡ x.0 ∷ rest = e ∙ ap (λ w. w ++ rest) x.1 in let no : ⊥ = cc in no)
+    token_some word kind rest [] (inr x) e = absurd (let front : [] ≡ x.0 ∷ (x.1 ++ rest) = e ∙ ap (λ w. w ++ rest) x.2 in let no : ⊥ = cc in no)
+
+pub scan_only : (text : List ℕ) (at : ℕ) (items : List Token) → Scan text at items → length text ≤ at → (ts : List Tok) → Tokens 0 text ts → toks text items ≡ ts
+scan_only text at items s le ts h =
+    let none : drop at text ≡ [] = drop_all at text le in
+    let x = s.only ts h in
+    let end : x.0 ≡ [] = nil_tokens at x.0 (subst (λ y. Tokens at y x.0) none x.2) in
+    sym (x.1 ∙ ap (λ y. toks text items ++ y) end ∙ append-nil (toks text items))

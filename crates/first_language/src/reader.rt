@@ -332,7 +332,10 @@ pub fn read_module(alloc: Global, text: &[u8]) -> Result<Program, ReadRefusal>
         rest: tokens.as_slice(),
     };
     let program = reader.module()?;
-    if !reader.is_done() || !term::is_within_limits(&program.term) {
+    if !reader.is_done() {
+        return Err(ReadRefusal::NotBuilt);
+    }
+    if !term::is_within_limits(&program.term) {
         return Err(ReadRefusal::NotBuilt);
     }
     Ok(program)

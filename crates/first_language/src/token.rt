@@ -218,7 +218,9 @@ pub fn tokens(alloc: Global, text: &[u8]) -> Result<Vec<Token>, ReadRefusal>
         if is_blank(text[at]) {
             at += 1;
         } else {
-            let token = token_at(text, at).ok_or(ReadRefusal::NotBuilt)?;
+            let Some(token) = token_at(text, at) else {
+                return Err(ReadRefusal::NotBuilt);
+            };
             tokens.push(token)?;
             at = token.end as usize;
         }
