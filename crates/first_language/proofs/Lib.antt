@@ -6,3 +6,4 @@ pub mod Halves
 pub mod Signals
 pub mod Words
 pub mod Texts
+pub mod Programs

@@ -9,7 +9,7 @@ use mathlib.Core.Bool.{beq}
 use Rattle.std.specs.Prelude.{not, ◌||◌, ◌&&◌, is_some}
 use Rattle.std.specs.List.{list_any}
 use Rattle.std.specs.Str.{bytes_eq}
-use Rattle.first_language.specs.declared.term.SignalDecl.{SignalDecl}
+use Rattle.first_language.specs.declared.tree.Declaration.{Declaration}
 use Rattle.first_language.specs.Grammar.{place_from, place_if, place_of, names_differ, scope_of}
 
 bytes_eq_true : (a b : List ℕ) → bytes_eq a b ≡ true → a ≡ b
@@ -32,7 +32,7 @@ bytes_eq_comm a b = by_test (bytes_eq b a) refl
     by_test true h = (bytes_eq-Decides a b).1 (sym (bytes_eq_true b a h))
     by_test false h = bytes_eq_other b a h
 
-abbrev pub is_named : List ℕ → SignalDecl → Bool
+abbrev pub is_named : List ℕ → Declaration → Bool
 is_named text s = bytes_eq text s.name
 
 -- the place of one more signal, where no other has its name
@@ -40,7 +40,7 @@ abbrev pub last_place : Option (ℕ × Bool) → Option (ℕ × Bool) → Option
 last_place (Some p) last = Some p
 last_place None last = last
 
-pub place_push : (n : ℕ) (xs : List SignalDecl) (y : SignalDecl) (text : List ℕ) → place_from n (xs ++ y ∷ []) text ≡ last_place (place_from n xs text) (cond (bytes_eq text y.name) (Some (n + length xs, y.is_output)) None)
+pub place_push : (n : ℕ) (xs : List Declaration) (y : Declaration) (text : List ℕ) → place_from n (xs ++ y ∷ []) text ≡ last_place (place_from n xs text) (cond (bytes_eq text y.name) (Some (n + length xs, y.is_output)) None)
 place_push n [] y text = rw add-zero refl
 place_push n (x ∷ xs) y text =
     let move : suc n + length xs ≡ n + suc (length xs) = omega arith in
@@ -51,7 +51,7 @@ place_push n (x ∷ xs) y text =
     by_name true e = refl
     by_name false e = e
 
-pub place_some : (n : ℕ) (xs : List SignalDecl) (text : List ℕ) → is_some (place_from n xs text) ≡ list_any (is_named text) xs
+pub place_some : (n : ℕ) (xs : List Declaration) (text : List ℕ) → is_some (place_from n xs text) ≡ list_any (is_named text) xs
 place_some n [] text = refl
 place_some n (x ∷ xs) text = by_name (bytes_eq text x.name) (place_some (suc n) xs text)
   where
@@ -63,7 +63,7 @@ none_of : (o : Option (ℕ × Bool)) → is_some o ≡ false → o ≡ None
 none_of None e = refl
 none_of (Some p) e = absurd (let no : ⊥ = cc in no)
 
-pub place_none : (xs : List SignalDecl) (text : List ℕ) → list_any (is_named text) xs ≡ false → place_from 0 xs text ≡ None
+pub place_none : (xs : List Declaration) (text : List ℕ) → list_any (is_named text) xs ≡ false → place_from 0 xs text ≡ None
 place_none xs text e = none_of (place_from 0 xs text) (place_some 0 xs text ∙ e)
 
 last_none : (o : Option (ℕ × Bool)) → last_place o None ≡ o
@@ -71,7 +71,7 @@ last_none None = refl
 last_none (Some p) = refl
 
 -- the map with one more name, at its place
-pub place_step : (f : List ℕ → Option (ℕ × Bool)) (xs : List SignalDecl) (y : SignalDecl) (n : ℕ) → n ≡ length xs → list_any (is_named y.name) xs ≡ false → ((text : List ℕ) → f text ≡ place_from 0 xs text)
+pub place_step : (f : List ℕ → Option (ℕ × Bool)) (xs : List Declaration) (y : Declaration) (n : ℕ) → n ≡ length xs → list_any (is_named y.name) xs ≡ false → ((text : List ℕ) → f text ≡ place_from 0 xs text)
     → (text : List ℕ) → cond (bytes_eq y.name text) (Some (n, y.is_output)) (f text) ≡ place_from 0 (xs ++ y ∷ []) text
 place_step f xs y n e none same text = by_name (bytes_eq y.name text) refl ∙ sym (place_push 0 xs y text)
   where
@@ -110,7 +110,7 @@ differ_shuffle false true false d = refl
 differ_shuffle false false c d = refl
 
 -- one more signal
-pub differ_push : (xs : List SignalDecl) (y : SignalDecl) → names_differ (xs ++ y ∷ []) ≡ (names_differ xs && not (list_any (is_named y.name) xs))
+pub differ_push : (xs : List Declaration) (y : Declaration) → names_differ (xs ++ y ∷ []) ≡ (names_differ xs && not (list_any (is_named y.name) xs))
 differ_push [] y = refl
 differ_push (x ∷ xs) y =
     let here : list_any (is_named x.name) (xs ++ y ∷ []) ≡ (list_any (is_named x.name) xs || bytes_eq y.name x.name) =
@@ -119,7 +119,7 @@ differ_push (x ∷ xs) y =
     ∙ differ_shuffle (list_any (is_named x.name) xs) (bytes_eq y.name x.name) (names_differ xs) (list_any (is_named y.name) xs)
 
 -- the first of signals whose names differ
-pub differ_front : (xs ys : List SignalDecl) → names_differ (xs ++ ys) ≡ true → names_differ xs ≡ true
+pub differ_front : (xs ys : List Declaration) → names_differ (xs ++ ys) ≡ true → names_differ xs ≡ true
 differ_front [] ys e = refl
 differ_front (x ∷ xs) ys e =
     let parts = both (not (list_any (is_named x.name) (xs ++ ys))) (names_differ (xs ++ ys)) e in
@@ -130,18 +130,18 @@ not_true true h = absurd (h refl)
 not_true false h = refl
 
 -- a signal whose name an earlier one has
-pub names_twice : (signals : List SignalDecl) (i : ℕ) (y : SignalDecl) → i < length signals → y ≡ get_or signals i y → list_any (is_named y.name) (take i signals) ≡ true → names_differ signals ≡ false
+pub names_twice : (signals : List Declaration) (i : ℕ) (y : Declaration) → i < length signals → y ≡ get_or signals i y → list_any (is_named y.name) (take i signals) ≡ true → names_differ signals ≡ false
 names_twice signals i y lt e twice =
     let front : take (i + 1) signals ≡ take i signals ++ y ∷ [] = take_more signals i y lt ∙ ap (λ z. take i signals ++ z ∷ []) (sym e) in
     let here : names_differ (take (i + 1) signals) ≡ false = ap names_differ front ∙ differ_push (take i signals) y ∙ ap (λ b. names_differ (take i signals) && not b) twice ∙ and_false (names_differ (take i signals)) in
     let whole : take (i + 1) signals ++ drop (i + 1) signals ≡ signals = take-append-drop (i + 1) signals in
     not_true (names_differ signals) (λ t. let all : names_differ (take (i + 1) signals) ≡ true = differ_front (take (i + 1) signals) (drop (i + 1) signals) (ap names_differ whole ∙ t) in let no : ⊥ = cc (sym here ∙ all) in no)
 
-pub scope_found : (signals : List SignalDecl) → length signals < 2 ^ 32 → names_differ signals ≡ true → scope_of signals ≡ Some signals
+pub scope_found : (signals : List Declaration) → length signals < 2 ^ 32 → names_differ signals ≡ true → scope_of signals ≡ Some signals
 unfolding scope_of
 scope_found signals lt e = rw (lt-ltb _ _ lt, e) refl
 
-pub scope_large : (signals : List SignalDecl) → 2 ^ 32 ≤ length signals → scope_of signals ≡ None
+pub scope_large : (signals : List Declaration) → 2 ^ 32 ≤ length signals → scope_of signals ≡ None
 unfolding scope_of
 scope_large signals le = by_test (ltb (length signals) (2 ^ 32)) refl
   where
@@ -149,7 +149,7 @@ scope_large signals le = by_test (ltb (length signals) (2 ^ 32)) refl
     by_test true h = let lt = ltb-true _ _ h in absurd (let no : ⊥ = omega arith in no)
     by_test false h = refl
 
-pub scope_twice : (signals : List SignalDecl) → names_differ signals ≡ false → scope_of signals ≡ None
+pub scope_twice : (signals : List Declaration) → names_differ signals ≡ false → scope_of signals ≡ None
 unfolding scope_of
 scope_twice signals e = rw e (by_test (ltb (length signals) (2 ^ 32)))
   where
@@ -182,15 +182,15 @@ if_other false p e = by_way p.1 e
     by_way true e = refl
     by_way false e = absurd (let no : ⊥ = cc in no)
 
-pub found_place : (signals : List SignalDecl) (b : Bool) (text : List ℕ) (p : ℕ × Bool) → place_from 0 signals text ≡ Some p → beq p.1 b ≡ true → Some p.0 ≡ place_of signals b text
+pub found_place : (signals : List Declaration) (b : Bool) (text : List ℕ) (p : ℕ × Bool) → place_from 0 signals text ≡ Some p → beq p.1 b ≡ true → Some p.0 ≡ place_of signals b text
 unfolding place_of
 found_place signals b text p e h = sym (ap (place_if b) e ∙ if_same b p (same_bool p.1 b h))
 
-pub other_place : (signals : List SignalDecl) (b : Bool) (text : List ℕ) (p : ℕ × Bool) → place_from 0 signals text ≡ Some p → beq p.1 b ≡ false → None ≡ place_of signals b text
+pub other_place : (signals : List Declaration) (b : Bool) (text : List ℕ) (p : ℕ × Bool) → place_from 0 signals text ≡ Some p → beq p.1 b ≡ false → None ≡ place_of signals b text
 unfolding place_of
 other_place signals b text p e h = sym (ap (place_if b) e ∙ if_other b p h)
 
-pub no_place : (signals : List SignalDecl) (b : Bool) (text : List ℕ) → place_from 0 signals text ≡ None → None ≡ place_of signals b text
+pub no_place : (signals : List Declaration) (b : Bool) (text : List ℕ) → place_from 0 signals text ≡ None → None ≡ place_of signals b text
 unfolding place_of
 no_place signals b text e = sym (ap (place_if b) e ∙ none_if b)
   where

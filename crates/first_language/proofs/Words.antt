@@ -1,21 +1,26 @@
 -- The tokens of a text, one after the other.
 use Rattle.std.proofs.Common.{◌≡◌, ℕ, zero, suc, ◌+◌, ◌-◌, ◌<◌, ◌≤◌, Bool, true, false, cond, List, [], ◌∷◌, ◌++◌, length, Option, Some, None, ◌⊎◌, inl, inr, refl, sym, ap, subst, ◌∙◌, append_assoc, add_assoc, arith, take, drop, get_or, All, ltb}
 use Rattle.std.specs.Prelude.{◌==◌, ◌||◌, slice_range}
-use Rattle.std.specs.List.{AllByRecursion}
+use Rattle.std.specs.List.{AllByRecursion, list_all}
 use Rattle.std.specs.Int.{is_in_range}
-use Rattle.std.specs.Str.{IsAscii}
+use Rattle.std.specs.Str.{IsAscii, chars}
+use Rattle.hh_base.specs.Name as name
+use Rattle.hh_base.specs.Name.{IsName}
+use Rattle.unicode_ident.specs.Ident.{is_xid_start, is_xid_continue}
+use Rattle.unicode_ident.proofs.IdentLemmas.{is_xid_start-ascii, is_xid_continue-ascii}
 use Rattle.std.proofs.lemmas.Bool.{eqb-true}
 use Rattle.std.proofs.lemmas.Bool.Decides.{nat_tests}
 use Rattle.std.proofs.lemmas.Bool.{ltb-true, ltb-false}
 use Rattle.std.proofs.lemmas.List.{append-nil, map-append, length-take, length-drop, drop_more, drop_all}
 use Rattle.std.proofs.lemmas.List.Elements.{All-append, All-cons, All-nil}
 use Rattle.std.proofs.lemmas.List.Folds.{drop_split}
-use Rattle.std.proofs.lemmas.Str.{IsUtf8-from_ascii}
+use Rattle.std.proofs.lemmas.Str.{IsUtf8-from_ascii, chars-IsAscii}
 use Rattle.std.proofs.lemmas.Str.Ascii.{IsAscii-nil, IsAscii-cons}
 use Rattle.first_language.specs.declared.token.Kind.{Kind}
 use Rattle.first_language.specs.declared.token.Kind.TheVariants as k
 use Rattle.first_language.specs.declared.token.Token.{Token}
 use Rattle.first_language.specs.Cursor.{tok, toks, InText}
+use Rattle.first_language.specs.Parser.{is_name}
 use Rattle.first_language.specs.Scanned.{IsTokenAt}
 use Rattle.first_language.specs.Words.{Tok, is_blank, starts_word, continues_word, mark_of, word_kind, EndsWord, IsMark, IsWord, IsToken, AllBlank, Tokens}
 
@@ -125,6 +130,48 @@ token_same w v r s a b e (inr x) (inr y) =
     let rest = run_same x.1 y.1 r s x.4 y.4 x.7 y.7 tail in
     let words : w ≡ v = x.2 ∙ rw (head, rest.0) refl ∙ sym y.2 in
     (words, rest.1, x.6 ∙ ap word_kind words ∙ sym y.6)
+
+-- ---- names
+
+mark_kind : (b c : ℕ) (here kind : Kind) (rest : Option Kind) → is_name here ≡ false → (rest ≡ Some kind → is_name kind ≡ false) → (t : Bool) → cond t (Some here) rest ≡ Some kind → is_name kind ≡ false
+mark_kind b c here kind rest p more true h = let same : here ≡ kind = cc in subst (λ k. is_name k ≡ false) same p
+mark_kind b c here kind rest p more false h = more h
+
+-- no mark is a name
+mark_no_name : (b : ℕ) (kind : Kind) → mark_of b ≡ Some kind → is_name kind ≡ false
+mark_no_name b kind e =
+    mark_kind b 40 k.LeftParen kind _ refl (λ e. mark_kind b 41 k.RightParen kind _ refl (λ e. mark_kind b 123 k.LeftBrace kind _ refl (λ e. mark_kind b 125 k.RightBrace kind _ refl
+    (λ e. mark_kind b 44 k.Comma kind _ refl (λ e. mark_kind b 59 k.Semicolon kind _ refl (λ e. mark_kind b 46 k.Dot kind None refl (λ e. absurd (let no : ⊥ = cc in no)) (b == 46) e) (b == 59) e) (b == 44) e) (b == 125) e) (b == 123) e) (b == 41) e) (b == 40) e
+
+starts_name : (b : ℕ) → starts_word b ≡ true → name.starts_word b ≡ true
+starts_name b e = ap (λ x. x || (b == 95)) (is_xid_start-ascii b (starts_ascii b e)) ∙ e
+
+continues_shuffle : (upper lower under digit : Bool) → (((upper || lower) || under) || digit) ≡ true → (((digit || upper) || lower) || under) ≡ true
+continues_shuffle true lower under true e = refl
+continues_shuffle true lower under false e = refl
+continues_shuffle false true under true e = refl
+continues_shuffle false true under false e = refl
+continues_shuffle false false true true e = refl
+continues_shuffle false false true false e = refl
+continues_shuffle false false false true e = refl
+continues_shuffle false false false false e = absurd (let no : ⊥ = cc in no)
+
+continues_name : (b : ℕ) → continues_word b ≡ true → is_xid_continue b ≡ true
+continues_name b e = is_xid_continue-ascii b (continues_ascii b e) ∙ continues_shuffle (is_in_range 65 90 b) (is_in_range 97 122 b) (b == 95) (is_in_range 48 57 b) e
+
+run_name : (bs : List ℕ) → Runs bs → list_all is_xid_continue bs ≡ true
+run_name [] h = refl
+run_name (b ∷ bs) h = rw (continues_name b h.0, run_name bs h.1) refl
+
+word_name : (word : List ℕ) (kind : Kind) (rest : List ℕ) → IsWord word kind rest → IsName word
+word_name word kind rest x =
+    let all : chars word ≡ x.0 ∷ x.1 = chars-IsAscii word (token_ascii word kind rest (inr x)) ∙ x.2 in
+    record { word = ap name.is_word all ∙ rw (starts_name x.0 x.3, run_name x.1 x.4) refl; short = x.5 }
+
+-- a token that may be a name is one
+token_name : (word : List ℕ) (kind : Kind) (rest : List ℕ) → IsToken word kind rest → is_name kind ≡ true → IsName word
+token_name word kind rest (inl x) e = no_both (is_name kind) e (mark_no_name x.0 kind x.2)
+token_name word kind rest (inr x) e = word_name word kind rest x
 
 -- ---- lists of tokens
 
@@ -278,7 +325,7 @@ scan_token text at items t s is =
     let same : tok_at at t.kind word ≡ tok text t = rw (← is.start) refl in
     record {
       within = is.within;
-      in_text = All-append (InText text) items (t ∷ []) s.in_text (All-cons (InText text) t [] (record { start = omega (arith, is.some); finish = is.within; utf8 = IsUtf8-from_ascii word (token_ascii word t.kind (drop t.«end» text) is.spells) }) (All-nil (InText text)));
+      in_text = All-append (InText text) items (t ∷ []) s.in_text (All-cons (InText text) t [] (record { start = omega (arith, is.some); finish = is.within; utf8 = IsUtf8-from_ascii word (token_ascii word t.kind (drop t.«end» text) is.spells); name = token_name word t.kind (drop t.«end» text) is.spells }) (All-nil (InText text)));
       whole = λ ts h.
           let later : Tokens (at + length word) (drop t.«end» text) ts = subst (λ n. Tokens n (drop t.«end» text) ts) (sym size) h in
           let here : Tokens at (drop at text) (tok_at at t.kind word ∷ ts) = subst (λ x. Tokens at x (tok_at at t.kind word ∷ ts)) (sym split) (token_to at word t.kind (drop t.«end» text) ts is.spells later) in

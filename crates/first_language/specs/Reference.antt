@@ -2,9 +2,9 @@
 use Rattle.std.specs.Prelude.{ℕ, zero, suc, Bool, true, false, List, [], ◌∷◌}
 use Rattle.first_language.specs.declared.token.Kind.{Kind}
 use Rattle.first_language.specs.declared.token.Kind.TheVariants as k
-use Rattle.first_language.specs.declared.term.Term.{Term}
-use Rattle.first_language.specs.declared.term.SignalDecl.{SignalDecl}
-use Rattle.first_language.specs.declared.term.Program.{Program}
+use Rattle.first_language.specs.declared.tree.Statement.{Statement}
+use Rattle.first_language.specs.declared.tree.Declaration.{Declaration}
+use Rattle.first_language.specs.declared.tree.ModuleText.{ModuleText}
 use Rattle.first_language.specs.Kernel as kernel
 use Rattle.first_language.specs.Parser.{Parser, ◌>>=◌, ◌>>◌, pure, refuse, take, name, given, either, many, is, kind_of}
 use Rattle.first_language.specs.Grammar.{place_of, scope_of, most_open}
@@ -12,18 +12,18 @@ use Rattle.first_language.specs.Grammar.{place_of, scope_of, most_open}
 unfoldable pub direction : Parser Bool
 direction = either (is k.In) (do take k.In; pure false) (do take k.Out; pure true)
 
-unfoldable pub declaration : Parser SignalDecl
+unfoldable pub declaration : Parser Declaration
 declaration = do
   d ← direction
   n ← name
   pure (record { name = n.1; is_output = d; pos = n.0 })
 
-unfoldable pub next_declaration : Parser SignalDecl
+unfoldable pub next_declaration : Parser Declaration
 next_declaration = do
   take k.Comma
   declaration
 
-unfoldable pub listed : Parser (List SignalDecl)
+unfoldable pub listed : Parser (List Declaration)
 listed = do
   d ← declaration
   ds ← many (is k.Comma) next_declaration
@@ -34,29 +34,29 @@ begins_declaration k.In = true
 begins_declaration k.Out = true
 begins_declaration _ = false
 
-unfoldable pub declarations : Parser (List SignalDecl)
+unfoldable pub declarations : Parser (List Declaration)
 declarations = either begins_declaration listed (pure [])
 
-unfoldable pub signal : List SignalDecl → Bool → Parser (ℕ × ℕ)
+unfoldable pub signal : List Declaration → Bool → Parser (ℕ × ℕ)
 signal signals is_output = do
   n ← name
   s ← given (place_of signals is_output n.1)
   pure (n.0, s)
 
-unfoldable pub pause : Parser Term
+unfoldable pub pause : Parser Statement
 pause = do
   t ← take k.Pause
   take k.Semicolon
   pure (kernel.pause t)
 
-unfoldable pub emit : List SignalDecl → Parser Term
+unfoldable pub emit : List Declaration → Parser Statement
 emit signals = do
   t ← take k.Emit
   s ← signal signals true
   take k.Semicolon
   pure (kernel.emit t s.1)
 
-unfoldable pub test : List SignalDecl → ℕ → Parser (ℕ × ℕ)
+unfoldable pub test : List Declaration → ℕ → Parser (ℕ × ℕ)
 test signals zero = refuse
 test signals (suc room) = do
   take k.LeftParen
@@ -66,15 +66,15 @@ test signals (suc room) = do
   take k.RightParen
   pure s
 
-unfoldable pub other_block : Parser Term → Parser Term
+unfoldable pub other_block : Parser Statement → Parser Statement
 other_block block = do
   take k.Else
   block
 
-unfoldable pub other : Parser Term → ℕ → Parser Term
+unfoldable pub other : Parser Statement → ℕ → Parser Statement
 other block t = either (is k.Else) (other_block block) (pure (kernel.nothing t))
 
-unfoldable pub choice : Parser (ℕ × ℕ) → Parser Term → Parser Term
+unfoldable pub choice : Parser (ℕ × ℕ) → Parser Statement → Parser Statement
 choice test block = do
   t ← take k.If
   s ← test
@@ -82,12 +82,12 @@ choice test block = do
   b ← other block t
   pure (kernel.choice t s a b)
 
-abbrev pub statement_by : List SignalDecl → Parser (ℕ × ℕ) → Parser Term → Kind → Parser Term
+abbrev pub statement_by : List Declaration → Parser (ℕ × ℕ) → Parser Statement → Kind → Parser Statement
 statement_by signals test block k.Pause = pause
 statement_by signals test block k.Emit = emit signals
 statement_by signals test block _ = choice test block
 
-unfoldable pub statement : List SignalDecl → Parser (ℕ × ℕ) → Parser Term → Parser Term
+unfoldable pub statement : List Declaration → Parser (ℕ × ℕ) → Parser Statement → Parser Statement
 statement signals test block = λ i. statement_by signals test block (kind_of i) i
 
 abbrev pub begins_statement : Kind → Bool
@@ -96,7 +96,7 @@ begins_statement k.Emit = true
 begins_statement k.If = true
 begins_statement _ = false
 
-unfoldable pub block : List SignalDecl → ℕ → Parser Term
+unfoldable pub block : List Declaration → ℕ → Parser Statement
 block signals zero = refuse
 block signals (suc room) = do
   t ← take k.LeftBrace
@@ -104,15 +104,15 @@ block signals (suc room) = do
   take k.RightBrace
   pure (kernel.join t xs)
 
-abbrev pub statement_in : List SignalDecl → ℕ → Parser Term
+abbrev pub statement_in : List Declaration → ℕ → Parser Statement
 statement_in signals room = statement signals (test signals room) (block signals room)
 
-unfoldable pub body : List SignalDecl → Parser Term
+unfoldable pub body : List Declaration → Parser Statement
 body ds = do
   signals ← given (scope_of ds)
   block signals most_open
 
-unfoldable pub module_of : Parser Program
+unfoldable pub module_of : Parser ModuleText
 module_of = do
   take k.Module
   name
@@ -120,4 +120,4 @@ module_of = do
   ds ← declarations
   take k.RightParen
   b ← body ds
-  pure (record { signals = ds; term = b })
+  pure (record { signals = ds; statement = b })

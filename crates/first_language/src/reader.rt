@@ -1,17 +1,17 @@
 //! The reader.
 
 ghost use Rattle.std.specs.Prelude.{◌≡◌, ◌↔◌, [], IfOk, IsTrue};
-ghost use Rattle.first_language.specs.declared.term.Program.{Program as AProgram};
+ghost use Rattle.first_language.specs.declared.tree.ModuleText.{ModuleText as AModule};
 ghost use Rattle.first_language.specs.Parser as parser;
 ghost use Rattle.first_language.specs.Parser.{Reads};
 ghost use Rattle.first_language.specs.Reference as rule;
-ghost use Rattle.first_language.specs.Grammar.{Spells, Reading};
+ghost use Rattle.first_language.specs.Grammar.{HasTree, ReadAs};
 
-use crate::name::Name;
 use crate::refusal::ReadRefusal;
 use crate::scope::Scope;
-use crate::term::{self, Program, SignalDecl, Term, TermNode};
+use crate::tree::{self, ModuleText, Declaration, Statement, StatementNode};
 use crate::token::{self, Kind, Token, same_kind};
+use hh_base::name::{Name, NameFault};
 use sqlite_items::Items;
 use std::alloc::Global;
 use std::marker::Model;
@@ -83,9 +83,15 @@ impl<'a> Reader<'a> {
                 let Ok(word) = str::from_utf8(bytes) else {
                     return Err(ReadRefusal::NotBuilt);
                 };
-                let name = Name::read(self.alloc, word)?;
-                self.rest = rest;
-                Ok((token.start, name))
+                match Name::read(self.alloc, word) {
+                    Ok(name) => {
+                        self.rest = rest;
+                        Ok((token.start, name))
+                    }
+                    Err(NameFault::NoMemory) => Err(ReadRefusal::NoMemory),
+                    Err(NameFault::NotName) => Err(ReadRefusal::NotBuilt),
+                    Err(NameFault::NameLong) => Err(ReadRefusal::NotBuilt),
+                }
             }
             _ => Err(ReadRefusal::NotBuilt),
         }
@@ -104,12 +110,12 @@ impl<'a> Reader<'a> {
     }
 
     #[tactic(auto, unfolding(crate::specs::Reference::declaration))]
-    fn declaration(&mut self) -> Result<SignalDecl, ReadRefusal>
+    fn declaration(&mut self) -> Result<Declaration, ReadRefusal>
         ensures { Reads (rule.declaration self.old) result self.new }
     {
         let is_output = self.direction()?;
         let (pos, name) = self.name()?;
-        Ok(SignalDecl {
+        Ok(Declaration {
             name,
             is_output,
             pos,
@@ -117,7 +123,7 @@ impl<'a> Reader<'a> {
     }
 
     #[tactic(auto, unfolding(crate::specs::Reference::next_declaration))]
-    fn next_declaration(&mut self) -> Result<SignalDecl, ReadRefusal>
+    fn next_declaration(&mut self) -> Result<Declaration, ReadRefusal>
         ensures { Reads (rule.next_declaration self.old) result self.new }
     {
         self.take(Kind::Comma)?;
@@ -125,7 +131,7 @@ impl<'a> Reader<'a> {
     }
 
     #[tactic(auto, unfolding(crate::specs::Reference::listed))]
-    fn listed(&mut self) -> Result<Items<SignalDecl>, ReadRefusal>
+    fn listed(&mut self) -> Result<Items<Declaration>, ReadRefusal>
         ensures { Reads (rule.listed self.old) result self.new }
     {
         let first = self.declaration()?;
@@ -139,7 +145,7 @@ impl<'a> Reader<'a> {
     }
 
     #[tactic(auto, unfolding(crate::specs::Reference::declarations))]
-    fn declarations(&mut self) -> Result<Items<SignalDecl>, ReadRefusal>
+    fn declarations(&mut self) -> Result<Items<Declaration>, ReadRefusal>
         ensures { Reads (rule.declarations self.old) result self.new }
     {
         if begins_declaration(self.kind()) {
@@ -162,27 +168,27 @@ impl<'a> Reader<'a> {
     }
 
     #[tactic(auto, unfolding(crate::specs::Reference::pause))]
-    fn pause(&mut self) -> Result<Term, ReadRefusal>
+    fn pause(&mut self) -> Result<Statement, ReadRefusal>
         ensures { Reads (rule.pause self.old) result self.new }
     {
         let pos = self.take(Kind::Pause)?;
         self.take(Kind::Semicolon)?;
-        Ok(Term {
+        Ok(Statement {
             pos,
-            node: TermNode::Pause,
+            node: StatementNode::Pause,
         })
     }
 
     #[tactic(auto, unfolding(crate::specs::Reference::emit))]
-    fn emit(&mut self, scope: &Scope) -> Result<Term, ReadRefusal>
+    fn emit(&mut self, scope: &Scope) -> Result<Statement, ReadRefusal>
         ensures { Reads (rule.emit scope.now self.old) result self.new }
     {
         let pos = self.take(Kind::Emit)?;
         let (_, signal) = self.signal(scope, true)?;
         self.take(Kind::Semicolon)?;
-        Ok(Term {
+        Ok(Statement {
             pos,
-            node: TermNode::Emit(signal),
+            node: StatementNode::Emit(signal),
         })
     }
 
@@ -204,11 +210,11 @@ impl<'a> Reader<'a> {
 
     #[cycle(statement)]
     #[tactic(auto, unfolding(crate::specs::Reference::other, crate::specs::Reference::other_block))]
-    fn other(&mut self, scope: &Scope, room: u8, pos: u32) -> Result<Term, ReadRefusal>
+    fn other(&mut self, scope: &Scope, room: u8, pos: u32) -> Result<Statement, ReadRefusal>
         ensures { Reads (rule.other (rule.block scope.now room) pos self.old) result self.new }
     {
         if !self.sees(Kind::Else) {
-            return Ok(term::nothing(pos));
+            return Ok(tree::nothing(pos));
         }
         self.take(Kind::Else)?;
         self.block(scope, room)
@@ -216,20 +222,20 @@ impl<'a> Reader<'a> {
 
     #[cycle(statement)]
     #[tactic(auto, unfolding(crate::specs::Reference::choice))]
-    fn choice(&mut self, scope: &Scope, room: u8) -> Result<Term, ReadRefusal>
+    fn choice(&mut self, scope: &Scope, room: u8) -> Result<Statement, ReadRefusal>
         ensures { Reads (rule.choice (rule.test scope.now room) (rule.block scope.now room) self.old) result self.new }
     {
         let pos = self.take(Kind::If)?;
         let (test, signal) = self.test(scope, room)?;
         let then = self.block(scope, room)?;
         let other = self.other(scope, room, pos)?;
-        let choice = term::choice(self.alloc, pos, test, signal, then, other)?;
+        let choice = tree::choice(self.alloc, pos, test, signal, then, other)?;
         Ok(choice)
     }
 
     #[cycle(statement)]
     #[tactic(auto, unfolding(crate::specs::Reference::statement))]
-    fn statement(&mut self, scope: &Scope, room: u8) -> Result<Term, ReadRefusal>
+    fn statement(&mut self, scope: &Scope, room: u8) -> Result<Statement, ReadRefusal>
         ensures { Reads (rule.statement_in scope.now room self.old) result self.new }
     {
         match self.kind() {
@@ -240,7 +246,7 @@ impl<'a> Reader<'a> {
     }
 
     #[cycle(statement)]
-    fn statements(&mut self, scope: &Scope, room: u8) -> Result<Items<Term>, ReadRefusal>
+    fn statements(&mut self, scope: &Scope, room: u8) -> Result<Items<Statement>, ReadRefusal>
         ensures { Reads (parser.many rule.begins_statement (rule.statement_in scope.now room) self.old) result self.new }
     {
         let mut list = Items::new(self.alloc);
@@ -254,7 +260,7 @@ impl<'a> Reader<'a> {
     /// A block, where so many brackets may still be opened.
     #[cycle(statement)]
     #[tactic(auto, unfolding(crate::specs::Reference::block))]
-    fn block(&mut self, scope: &Scope, room: u8) -> Result<Term, ReadRefusal>
+    fn block(&mut self, scope: &Scope, room: u8) -> Result<Statement, ReadRefusal>
         ensures { Reads (rule.block scope.now room self.old) result self.new }
     {
         if room == 0 {
@@ -263,12 +269,12 @@ impl<'a> Reader<'a> {
         let pos = self.take(Kind::LeftBrace)?;
         let statements = self.statements(scope, room - 1)?;
         self.take(Kind::RightBrace)?;
-        let block = term::join(self.alloc, pos, statements)?;
+        let block = tree::join(self.alloc, pos, statements)?;
         Ok(block)
     }
 
     #[tactic(auto, unfolding(crate::specs::Reference::body, crate::specs::Parser::given))]
-    fn body(&mut self, signals: &[SignalDecl]) -> Result<Term, ReadRefusal>
+    fn body(&mut self, signals: &[Declaration]) -> Result<Statement, ReadRefusal>
         ensures { Reads (rule.body signals.now self.old) result self.new }
     {
         let scope = Scope::new(self.alloc, signals)?;
@@ -276,7 +282,7 @@ impl<'a> Reader<'a> {
     }
 
     #[tactic(auto, unfolding(crate::specs::Reference::module_of))]
-    fn module(&mut self) -> Result<Program, ReadRefusal>
+    fn module(&mut self) -> Result<ModuleText, ReadRefusal>
         ensures { Reads (rule.module_of self.old) result self.new }
     {
         self.take(Kind::Module)?;
@@ -284,8 +290,8 @@ impl<'a> Reader<'a> {
         self.take(Kind::LeftParen)?;
         let signals = self.declarations()?;
         self.take(Kind::RightParen)?;
-        let term = self.body(signals.as_slice())?;
-        Ok(Program { signals, term })
+        let statement = self.body(signals.as_slice())?;
+        Ok(ModuleText { signals, statement })
     }
 }
 
@@ -316,11 +322,11 @@ fn begins_statement(kind: Kind) -> bool
     }
 }
 
-/// The program that a module text spells.
-pub fn read_module(alloc: Global, text: &[u8]) -> Result<Program, ReadRefusal>
-    ensures found { IfOk result (λ p. Spells text.now p) }
-    ensures only { (p : AProgram) → Spells text.now p → Reading p result }
-    ensures not_built { result ≡ Err ReadRefusal.NotBuilt → (p : AProgram) → ¬ Spells text.now p }
+/// The tree of a module text.
+pub fn read_text(alloc: Global, text: &[u8]) -> Result<ModuleText, ReadRefusal>
+    ensures found { IfOk result (λ p. HasTree text.now p) }
+    ensures only { (p : AModule) → HasTree text.now p → ReadAs p result }
+    ensures not_built { result ≡ Err ReadRefusal.NotBuilt → (p : AModule) → ¬ HasTree text.now p }
 {
     if text.len() > u32::MAX as usize {
         return Err(ReadRefusal::NotBuilt);
@@ -331,12 +337,12 @@ pub fn read_module(alloc: Global, text: &[u8]) -> Result<Program, ReadRefusal>
         text,
         rest: tokens.as_slice(),
     };
-    let program = reader.module()?;
+    let module = reader.module()?;
     if !reader.is_done() {
         return Err(ReadRefusal::NotBuilt);
     }
-    if !term::is_within_limits(&program.term) {
+    if !tree::is_within_limits(&module.statement) {
         return Err(ReadRefusal::NotBuilt);
     }
-    Ok(program)
+    Ok(module)
 }

@@ -4,7 +4,7 @@ ghost use Rattle.std.specs.Prelude.{◌≡◌, IfOk, IfErr, Some, None};
 ghost use Rattle.first_language.specs.Grammar.{scope_of, place_of, names_differ};
 
 use crate::refusal::ReadRefusal;
-use crate::term::SignalDecl;
+use crate::tree::Declaration;
 use std::alloc::Global;
 use std::collections::HashMap;
 use std::marker::Model;
@@ -12,15 +12,15 @@ use std::marker::Model;
 /// The places of signals, whose names differ. Contracts see the signals.
 #[derive(Drop)]
 pub struct Scope<'s> {
-    signals: &'s [SignalDecl],
+    signals: &'s [Declaration],
     places: HashMap<String, (u32, bool)>,
 }
 
 impl<'s> Model for Scope<'s> {
     ghost use Rattle.std.specs.Prelude.{List};
-    ghost use Rattle.first_language.specs.declared.term.SignalDecl.{SignalDecl as ADecl};
+    ghost use Rattle.first_language.specs.declared.tree.Declaration.{Declaration as ADeclaration};
 
-    ghost Value = { List ADecl };
+    ghost Value = { List ADeclaration };
 
     ghost use Rattle.first_language.specs.Places.{signals_of, IsIndexed};
 
@@ -31,7 +31,7 @@ impl<'s> Model for Scope<'s> {
 
 impl<'s> Scope<'s> {
     /// `NotBuilt` where two signals have one name.
-    pub fn new(alloc: Global, signals: &'s [SignalDecl]) -> Result<Scope<'s>, ReadRefusal>
+    pub fn new(alloc: Global, signals: &'s [Declaration]) -> Result<Scope<'s>, ReadRefusal>
         ensures found { IfOk result (λ s. (s ≡ signals.now) × (scope_of signals.now ≡ Some signals.now)) }
         ensures not_built { result ≡ Err ReadRefusal.NotBuilt → scope_of signals.now ≡ None }
     {

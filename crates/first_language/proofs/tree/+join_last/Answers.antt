@@ -2,7 +2,7 @@ use Rattle.std.proofs.Common.{◌≡◌, ◌≤◌, ◌-◌, ◌/◌, length, ta
 use Rattle.std.proofs.lemmas.List.{take_all}
 use Rattle.first_language.specs.Kernel.{join, seq}
 use Rattle.first_language.proofs.Halves.{join_none, pop_one, join_last, rest_left, when_ok}
-use Rattle.first_language.proofs.term.+join_last.Goals as goal
+use Rattle.first_language.proofs.tree.+join_last.Goals as goal
 
 pub returns-then-count-eq0 : goal.returns-then-count-eq0
 returns-then-count-eq0 t c =
