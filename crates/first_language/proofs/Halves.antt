@@ -47,7 +47,7 @@ join_last pos xs ys count half two le h e =
     let short : length ys ≡ length xs - half = omega (arith, ap length e, length-take (length xs - half) xs) in
     let place : length ys - (count - half) ≡ k = omega arith in
     let first : take (count - half) (drop k xs) ≡ drop (length ys - (count - half)) ys =
-        sym (drop-take k (count - half) xs) ∙ ap (λ n. drop k (take n xs)) sum ∙ ap (drop k) (sym e) ∙ ap (λ n. drop n ys) (sym place) in
+    sym (drop-take k (count - half) xs) ∙ ap (λ n. drop k (take n xs)) sum ∙ ap (drop k) (sym e) ∙ ap (λ n. drop n ys) (sym place) in
     let second : drop (count - half) (drop k xs) ≡ drop (length xs - half) xs = drop-drop (count - half) k xs ∙ ap (λ n. drop n xs) sum in
     parts ∙ rw (first, second) refl
 

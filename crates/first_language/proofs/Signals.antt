@@ -114,7 +114,7 @@ pub differ_push : (xs : List Declaration) (y : Declaration) → names_differ (xs
 differ_push [] y = refl
 differ_push (x ∷ xs) y =
     let here : list_any (is_named x.name) (xs ++ y ∷ []) ≡ (list_any (is_named x.name) xs || bytes_eq y.name x.name) =
-        list_any-append (is_named x.name) xs (y ∷ []) ∙ ap (λ b. list_any (is_named x.name) xs || b) (or_false (bytes_eq x.name y.name) ∙ bytes_eq_comm x.name y.name) in
+    list_any-append (is_named x.name) xs (y ∷ []) ∙ ap (λ b. list_any (is_named x.name) xs || b) (or_false (bytes_eq x.name y.name) ∙ bytes_eq_comm x.name y.name) in
     ap (λ b. not b && names_differ (xs ++ y ∷ [])) here ∙ ap (λ b. not (list_any (is_named x.name) xs || bytes_eq y.name x.name) && b) (differ_push xs y)
     ∙ differ_shuffle (list_any (is_named x.name) xs) (bytes_eq y.name x.name) (names_differ xs) (list_any (is_named y.name) xs)
 
@@ -156,7 +156,6 @@ scope_twice signals e = rw e (by_test (ltb (length signals) (2 ^ 32)))
     by_test : (b : Bool) → cond (b && false) (Some signals) None ≡ None
     by_test true = refl
     by_test false = refl
-
 
 -- ---- what a name finds
 

@@ -83,11 +83,5 @@ pub fn read_module(alloc: Global, text: &[u8]) -> Result<Program, ReadRefusal>
     let interface = module.signals.len() as u32;
     let signals = signals(alloc, module.signals.as_slice())?;
     let term = term(alloc, &module.statement)?;
-    Ok(Program::new(
-        signals,
-        interface,
-        Vec::new(alloc),
-        Vec::new(alloc),
-        term,
-    ))
+    Ok(Program::new(signals, interface, Vec::new(alloc), Vec::new(alloc), term))
 }

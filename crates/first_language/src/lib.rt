@@ -5,8 +5,8 @@ mod build;
 mod reader;
 mod refusal;
 mod scope;
-mod tree;
 mod token;
+mod tree;
 
 pub use build::read_module;
 pub use refusal::ReadRefusal;

@@ -9,8 +9,8 @@ ghost use Rattle.first_language.specs.Grammar.{HasTree, ReadAs};
 
 use crate::refusal::ReadRefusal;
 use crate::scope::Scope;
-use crate::tree::{self, ModuleText, Declaration, Statement, StatementNode};
 use crate::token::{self, Kind, Token, same_kind};
+use crate::tree::{self, Declaration, ModuleText, Statement, StatementNode};
 use hh_base::name::{Name, NameFault};
 use sqlite_items::Items;
 use std::alloc::Global;

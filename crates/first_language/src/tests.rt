@@ -89,7 +89,14 @@ fn keeps_limits(rt: HostRuntime) {
     let first = repeated(alloc, "module M(in A) {", "if (A.now) {", 128, "").unwrap();
     let deep = repeated(alloc, first.as_str(), "}", 129, "").unwrap();
     assert!(rt; is_refused(alloc, deep.as_str()));
-    let large = repeated(alloc, "module M(in A) { if (A.now) {} ", "pause;", 32766, "}").unwrap();
+    let large = repeated(
+        alloc,
+        "module M(in A) { if (A.now) {} ",
+        "pause;",
+        32766,
+        "}",
+    )
+    .unwrap();
     assert!(rt; is_read(alloc, large.as_str()));
     let large = repeated(alloc, "module M() {", "pause;", 32769, "}").unwrap();
     assert!(rt; is_refused(alloc, large.as_str()));

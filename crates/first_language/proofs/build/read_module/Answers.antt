@@ -28,20 +28,20 @@ pub new-requires-3 : goal.new-requires-3
 new-requires-3 c =
     let m = c.in_ok-module.module in
     let built : kernel_from c.in_ok-signals.signals.items c.len-interface.result c.new.result.items c.new-2.result.items c.in_ok-term.term ≡ kernel_of_text m =
-        is_built m c.in_ok-signals.signals.items c.len-interface.result c.new.result.items c.new-2.result.items c.in_ok-term.term (c.in_ok-signals.ensures ∙ ap (map signal_of) c.as_slice.ensures) c.len-interface.ensures c.new.ensures.items c.new-2.ensures.items c.in_ok-term.ensures in
+    is_built m c.in_ok-signals.signals.items c.len-interface.result c.new.result.items c.new-2.result.items c.in_ok-term.term (c.in_ok-signals.ensures ∙ ap (map signal_of) c.as_slice.ensures) c.len-interface.ensures c.new.ensures.items c.new-2.ensures.items c.in_ok-term.ensures in
     ∣ subst IsProgram (sym built) (is_a_program c.args.text.now m c.in_ok-module.ensures.found) ∣₁
 
 pub returns-clause-found : goal.returns-clause-found
 returns-clause-found c =
     let m = c.in_ok-module.module in
     let built : kernel_from c.in_ok-signals.signals.items c.len-interface.result c.new.result.items c.new-2.result.items c.in_ok-term.term ≡ kernel_of_text m =
-        is_built m c.in_ok-signals.signals.items c.len-interface.result c.new.result.items c.new-2.result.items c.in_ok-term.term (c.in_ok-signals.ensures ∙ ap (map signal_of) c.as_slice.ensures) c.len-interface.ensures c.new.ensures.items c.new-2.ensures.items c.in_ok-term.ensures in
+    is_built m c.in_ok-signals.signals.items c.len-interface.result c.new.result.items c.new-2.result.items c.in_ok-term.term (c.in_ok-signals.ensures ∙ ap (map signal_of) c.as_slice.ensures) c.len-interface.ensures c.new.ensures.items c.new-2.ensures.items c.in_ok-term.ensures in
     record { tree = m; has_tree = c.in_ok-module.ensures.found; is_program = c.new-3.ensures ∙ built }
 
 pub returns-clause-only : goal.returns-clause-only
 returns-clause-only c = λ program s.
     let m = c.in_ok-module.module in
     let built : kernel_from c.in_ok-signals.signals.items c.len-interface.result c.new.result.items c.new-2.result.items c.in_ok-term.term ≡ kernel_of_text m =
-        is_built m c.in_ok-signals.signals.items c.len-interface.result c.new.result.items c.new-2.result.items c.in_ok-term.term (c.in_ok-signals.ensures ∙ ap (map signal_of) c.as_slice.ensures) c.len-interface.ensures c.new.ensures.items c.new-2.ensures.items c.in_ok-term.ensures in
+    is_built m c.in_ok-signals.signals.items c.len-interface.result c.new.result.items c.new-2.result.items c.in_ok-term.term (c.in_ok-signals.ensures ∙ ap (map signal_of) c.as_slice.ensures) c.len-interface.ensures c.new.ensures.items c.new-2.ensures.items c.in_ok-term.ensures in
     let same = c.in_ok-module.ensures.only s.tree s.has_tree in
     c.new-3.ensures ∙ built ∙ ap kernel_of_text same ∙ sym s.is_program

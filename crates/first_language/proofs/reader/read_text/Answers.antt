@@ -66,7 +66,7 @@ returns-then-not-is_within_limits-clause-not_built c = λ e p s.
     no_both c.is_within_limits.result (c.is_within_limits.ensures.1 (height, size)) c.if-not-is_within_limits.true
 
 pub returns-clause-found : goal.returns-clause-found
-returns-clause-found c = 
+returns-clause-found c =
     let text = c.args.text.now in
     let ts = toks text c.as_slice.result.now in
     let has : Tokens 0 text ts = subst (λ xs. Tokens 0 text (toks text xs)) (sym c.as_slice.ensures.value) c.in_ok-tokens.ensures.found in
@@ -81,4 +81,3 @@ returns-clause-only c = λ p s.
     let ts = toks text c.as_slice.result.now in
     let only : (us : List Tok) → Tokens 0 text us → ts ≡ us = λ us h. ap (toks text) c.as_slice.ensures.value ∙ c.in_ok-tokens.ensures.only us h in
     (one_reading ts p c.in_ok-module.module c.module.new.self (is_read text ts p only s) c.in_ok-module.ensures).0
-

@@ -19,7 +19,7 @@ returns-then-contains_key-clause-not_built c = λ e.
     let y = c.index-signals-place.result in
     let found : is_some (get_by_text c.each.places c.as_str-name.result.now) ≡ true = sym c.contains_key.ensures ∙ c.if-contains_key.true in
     let named : list_any (is_named y.name) (take c.each.place signals) ≡ true =
-        sym (place_some 0 (take c.each.place signals) y.name) ∙ ap is_some (sym (c.each.invariant.indexed y.name)) ∙ ap (λ t. is_some (get_by_text c.each.places t)) (sym c.as_str-name.ensures.text) ∙ found in
+    sym (place_some 0 (take c.each.place signals) y.name) ∙ ap is_some (sym (c.each.invariant.indexed y.name)) ∙ ap (λ t. is_some (get_by_text c.each.places t)) (sym c.as_str-name.ensures.text) ∙ found in
     scope_twice signals (names_twice signals c.each.place y c.each-test.true c.index-signals-place.is named)
 
 pub each-preserved : goal.each-preserved
@@ -32,7 +32,7 @@ each-preserved c =
     let size : i ≡ length xs = omega (arith, length-take i signals, c.each-test.true) in
     let key : string_bytes c.in_ok-key.key ≡ y.name = c.in_ok-key.ensures.ok ∙ c.as_str-name.ensures.text in
     let fresh : list_any (is_named y.name) xs ≡ false =
-        sym (place_some 0 xs y.name) ∙ ap is_some (sym (c.each.invariant.indexed y.name)) ∙ ap (λ t. is_some (get_by_text c.each.places t)) (sym c.as_str-name.ensures.text) ∙ (sym c.contains_key.ensures ∙ c.if-contains_key.false) in
+    sym (place_some 0 xs y.name) ∙ ap is_some (sym (c.each.invariant.indexed y.name)) ∙ ap (λ t. is_some (get_by_text c.each.places t)) (sym c.as_str-name.ensures.text) ∙ (sym c.contains_key.ensures ∙ c.if-contains_key.false) in
     let step = hash_map_updates_text (string_bytes c.in_ok-key.key) c.each.places c.insert.new.self (Some (i, y.is_output)) c.in_ok-insert.ensures.updates in
     record {
       indexed = λ text. step text ∙ ap (λ k. cond (bytes_eq k text) (Some (i, y.is_output)) (get_by_text c.each.places text)) key ∙ place_step (get_by_text c.each.places) xs y i size fresh c.each.invariant.indexed text ∙ ap (λ l. place_from 0 l text) (sym whole);
