@@ -79,15 +79,15 @@ fn refuses_texts(rt: HostRuntime) {
 #[test]
 fn keeps_limits(rt: HostRuntime) {
     let alloc = rt.alloc();
-    let name = repeated(alloc, "module ", "a", 255, "() {}").unwrap();
+    let name = repeated(alloc, "module ", "a", 255, "() {}").expect(&rt, "a value");
     assert!(rt; is_read(alloc, name.as_str()));
-    let name = repeated(alloc, "module ", "a", 256, "() {}").unwrap();
+    let name = repeated(alloc, "module ", "a", 256, "() {}").expect(&rt, "a value");
     assert!(rt; is_refused(alloc, name.as_str()));
-    let first = repeated(alloc, "module M(in A) {", "if (A.now) {", 127, "").unwrap();
-    let deep = repeated(alloc, first.as_str(), "}", 128, "").unwrap();
+    let first = repeated(alloc, "module M(in A) {", "if (A.now) {", 127, "").expect(&rt, "a value");
+    let deep = repeated(alloc, first.as_str(), "}", 128, "").expect(&rt, "a value");
     assert!(rt; is_read(alloc, deep.as_str()));
-    let first = repeated(alloc, "module M(in A) {", "if (A.now) {", 128, "").unwrap();
-    let deep = repeated(alloc, first.as_str(), "}", 129, "").unwrap();
+    let first = repeated(alloc, "module M(in A) {", "if (A.now) {", 128, "").expect(&rt, "a value");
+    let deep = repeated(alloc, first.as_str(), "}", 129, "").expect(&rt, "a value");
     assert!(rt; is_refused(alloc, deep.as_str()));
     let large = repeated(
         alloc,
@@ -96,9 +96,9 @@ fn keeps_limits(rt: HostRuntime) {
         32766,
         "}",
     )
-    .unwrap();
+    .expect(&rt, "a value");
     assert!(rt; is_read(alloc, large.as_str()));
-    let large = repeated(alloc, "module M() {", "pause;", 32769, "}").unwrap();
+    let large = repeated(alloc, "module M() {", "pause;", 32769, "}").expect(&rt, "a value");
     assert!(rt; is_refused(alloc, large.as_str()));
 }
 
@@ -106,7 +106,7 @@ fn keeps_limits(rt: HostRuntime) {
 fn builds_the_program(rt: HostRuntime) {
     let alloc = rt.alloc();
     let text = "module M(in A, out B) { if (A.now) { emit B; } pause; }";
-    let program = read_module(alloc, text.as_bytes()).unwrap();
+    let program = read_module(alloc, text.as_bytes()).expect(&rt, "a value");
     assert!(rt; program.signals().len() == 2);
     assert!(rt; program.interface_len() == 2);
     assert!(rt; program.signals()[1].pos.0 == 19);
