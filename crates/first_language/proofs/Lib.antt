@@ -1,0 +1,9 @@
+pub mod Laws
+pub mod Many
+pub mod Rules
+pub mod Slices
+pub mod Halves
+pub mod Signals
+pub mod Words
+pub mod Texts
+pub mod Programs

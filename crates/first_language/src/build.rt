@@ -1,0 +1,87 @@
+//! The kernel program of a text.
+
+ghost use Rattle.std.specs.Prelude.{◌≡◌, IfOk, map};
+ghost use Rattle.hh_term.specs.Kernel.{Kernel};
+ghost use Rattle.hh_term.specs.Views.{statement_of};
+ghost use Rattle.hh_term.specs.Viewed.{kernel_of};
+ghost use Rattle.first_language.specs.Kernel.{kernel_statement};
+ghost use Rattle.first_language.specs.Programs.{direction_of, signal_of, Spells, Reading};
+
+use crate::reader::read_text;
+use crate::refusal::ReadRefusal;
+use crate::tree::{Declaration, Statement, StatementNode};
+use hh_base::memory::NoMemory;
+use hh_base::value::{Kind, Pos, Value};
+use hh_term::program::{Dir, Program, SignalDecl};
+use hh_term::term::{Term, TermNode};
+use host_expr::expr::{Expr, ExprNode};
+use std::alloc::Global;
+
+fn direction(is_output: bool) -> Dir
+    ensures { result ≡ direction_of is_output }
+{
+    if is_output { Dir::Output } else { Dir::Input }
+}
+
+fn signals(alloc: Global, declarations: &[Declaration]) -> Result<Vec<SignalDecl>, NoMemory>
+    ensures { IfOk result (λ v. v.items ≡ map signal_of declarations.now) }
+{
+    let mut signals = Vec::with_capacity(alloc, declarations.len())?;
+    'each: for declaration in declarations {
+        signals.push(SignalDecl {
+            name: Some(declaration.name.copy(alloc)?),
+            dir: direction(declaration.is_output),
+            kind: Kind::Pure,
+            first: Value::Unit,
+            combine: None,
+            pos: Pos(declaration.pos),
+        })?;
+    }
+    Ok(signals)
+}
+
+/// Each node stands at the position of its statement, and a test at that of its name.
+fn term(alloc: Global, statement: &Statement) -> Result<Term, NoMemory>
+    ensures { IfOk result (λ t. statement_of t ≡ kernel_statement statement.now) }
+{
+    let node = match &statement.node {
+        StatementNode::Nothing => TermNode::Nothing,
+        StatementNode::Pause => TermNode::Pause,
+        StatementNode::Emit(signal) => TermNode::Emit(*signal, None),
+        StatementNode::If(pos, signal, then, other) => {
+            let test = Expr {
+                pos: Pos(*pos),
+                node: ExprNode::Now(*signal),
+            };
+            let then = term(alloc, then.get())?;
+            let other = term(alloc, other.get())?;
+            TermNode::If(test, Box::new(alloc, then)?, Box::new(alloc, other)?)
+        }
+        StatementNode::Seq(first, second) => {
+            let first = term(alloc, first.get())?;
+            let second = term(alloc, second.get())?;
+            TermNode::Seq(Box::new(alloc, first)?, Box::new(alloc, second)?)
+        }
+    };
+    Ok(Term {
+        pos: Pos(statement.pos),
+        node,
+    })
+}
+
+/// The program that a text of the first language spells, or `NotBuilt`. A node stands at the position of the
+/// first token of its statement: a sequence at that of its first part, `nothing` at the `{` of its block or
+/// at the `if` that has no `else`. A test stands at its name, and so does a declaration.
+pub fn read_module(alloc: Global, text: &[u8]) -> Result<Program, ReadRefusal>
+    // What is read is spelled by the text.
+    ensures found { IfOk result (λ p. Spells text.now (kernel_of p)) }
+    // What the text spells is read, unless memory runs out.
+    ensures only { (program : Kernel) → Spells text.now program → Reading program result }
+    ensures not_built { result ≡ Err ReadRefusal.NotBuilt → (program : Kernel) → ¬ Spells text.now program }
+{
+    let module = read_text(alloc, text)?;
+    let interface = module.signals.len() as u32;
+    let signals = signals(alloc, module.signals.as_slice())?;
+    let term = term(alloc, &module.statement)?;
+    Ok(Program::new(signals, interface, Vec::new(alloc), Vec::new(alloc), term))
+}
