@@ -20,7 +20,7 @@ use Rattle.hh_term.specs.Kernel as program
 use Rattle.hh_term.specs.Sizes as Sizes
 use Rattle.hh_term.specs.Pairs.{EachPair}
 use Rattle.hh_term.specs.IsProgram.{IsProgram, NamesDiffer, NamesGoByPosition}
-use Rattle.hh_term.specs.FirstLanguage.{HasDirection, IsFirstStatement, IsFirstSignal, IsOneWay}
+use Rattle.hh_term.specs.FirstLanguage.{HasDirection, IsFirstStatement, IsFirstSignal, IsOneWay, IsFirstLanguage}
 use Rattle.hh_term.proofs.FirstStatements.{First, first_of, nothing, pause, emission, test, sequence}
 use Rattle.hh_term.proofs.FirstPrograms.{first_language_is_program}
 use Rattle.first_language.specs.declared.token.Kind.TheVariants as k
@@ -338,12 +338,16 @@ kept text m h =
 pub few_signals : (text : List ℕ) (m : ModuleText) → g.HasTree text m → length m.signals < 2 ^ 32
 few_signals text m h = (kept text m h).few
 
+pub is_of_first_language : (text : List ℕ) (m : ModuleText) → g.HasTree text m → IsFirstLanguage (kernel_of_text m)
+is_of_first_language text m h =
+    record { signals = first_signals m.signals; interface = sym (length-map m.signals signal_of); bodies = refl; sites = refl; statement = is_first (kept text m h).first }
+
 pub is_a_program : (text : List ℕ) (m : ModuleText) → g.HasTree text m → IsProgram (kernel_of_text m)
 is_a_program text m h =
     let x = kept text m h in
     let K = kernel_of_text m in
     first_language_is_program K
-    (record { signals = first_signals m.signals; interface = sym (length-map m.signals signal_of); bodies = refl; sites = refl; statement = is_first x.first })
+    (is_of_first_language text m h)
     (record { named = all_named m.signals; differ = all_differ m.signals x.differ })
     x.places (omega (arith, nodes_same K x.first, h.size)) h.height
 

@@ -1,6 +1,7 @@
 //! The kernel program of a text.
 
 ghost use Rattle.std.specs.Prelude.{◌≡◌, IfOk, map};
+ghost use Rattle.hh_term.specs.FirstLanguage.{IsFirstLanguage};
 ghost use Rattle.hh_term.specs.Kernel.{Kernel};
 ghost use Rattle.hh_term.specs.Views.{statement_of};
 ghost use Rattle.hh_term.specs.Viewed.{kernel_of};
@@ -78,6 +79,7 @@ pub fn read_module(alloc: Global, text: &[u8]) -> Result<Program, ReadRefusal>
     // What the text spells is read, unless memory runs out.
     ensures only { (program : Kernel) → Spells text.now program → Reading program result }
     ensures not_built { result ≡ Err ReadRefusal.NotBuilt → (program : Kernel) → ¬ Spells text.now program }
+    ensures first { IfOk result (λ p. IsFirstLanguage (kernel_of p)) }
 {
     let module = read_text(alloc, text)?;
     let interface = module.signals.len() as u32;

@@ -1,2 +1,4 @@
 pub mod LineLaws
 pub mod Puts
+pub mod Running
+pub mod Scripts

@@ -2,5 +2,8 @@
 #![tactic(auto)]
 
 pub mod ending;
-pub mod refusal;
-pub mod split;
+pub mod play;
+mod refusal;
+mod run;
+mod script;
+mod split;

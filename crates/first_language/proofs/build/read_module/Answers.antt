@@ -1,10 +1,11 @@
 use Rattle.std.proofs.Common.{◌≡◌, ◌<◌, ◌^◌, length, map, sym, ◌∙◌, ap, subst, refl, arith}
 use Rattle.std.proofs.lemmas.Result.{err_from_is_err_and}
 use Rattle.hh_term.specs.Assembled.{kernel_from}
+use Rattle.hh_term.specs.FirstLanguage.{IsFirstLanguage}
 use Rattle.hh_term.specs.IsProgram.{IsProgram}
 use Rattle.first_language.specs.declared.refusal.ReadRefusal.TheVariants.{NoMemory}
 use Rattle.first_language.specs.Programs.{signal_of, kernel_of_text}
-use Rattle.first_language.proofs.Programs.{few_signals, is_a_program, is_built}
+use Rattle.first_language.proofs.Programs.{few_signals, is_a_program, is_built, is_of_first_language}
 use Rattle.first_language.proofs.build.read_module.Goals as goal
 
 pub returns-in_err-module-clause-only : goal.returns-in_err-module-clause-only
@@ -45,3 +46,10 @@ returns-clause-only c = λ program s.
     is_built m c.in_ok-signals.signals.items c.len-interface.result c.new.result.items c.new-2.result.items c.in_ok-term.term (c.in_ok-signals.ensures ∙ ap (map signal_of) c.as_slice.ensures) c.len-interface.ensures c.new.ensures.items c.new-2.ensures.items c.in_ok-term.ensures in
     let same = c.in_ok-module.ensures.only s.tree s.has_tree in
     c.new-3.ensures ∙ built ∙ ap kernel_of_text same ∙ sym s.is_program
+
+pub returns-clause-first : goal.returns-clause-first
+returns-clause-first c =
+    let m = c.in_ok-module.module in
+    let built : kernel_from c.in_ok-signals.signals.items c.len-interface.result c.new.result.items c.new-2.result.items c.in_ok-term.term ≡ kernel_of_text m =
+    is_built m c.in_ok-signals.signals.items c.len-interface.result c.new.result.items c.new-2.result.items c.in_ok-term.term (c.in_ok-signals.ensures ∙ ap (map signal_of) c.as_slice.ensures) c.len-interface.ensures c.new.ensures.items c.new-2.ensures.items c.in_ok-term.ensures in
+    subst IsFirstLanguage (sym (c.new-3.ensures ∙ built)) (is_of_first_language c.args.text.now m c.in_ok-module.ensures.found)

@@ -1,0 +1,93 @@
+//! `hiphop play`: a module and its scenario, played.
+
+ghost use Rattle.std.specs.Prelude.{◌≡◌, ◌≤◌, ◌⊎◌, ◌↔◌, ℕ, List, [], length, IsTrue};
+ghost use Rattle.std.specs.Io.KnownBytes.{Appends};
+ghost use Rattle.hiphop_main.specs.declared.ending.Cause.{Cause as ACause};
+ghost use Rattle.hiphop_main.specs.declared.ending.Cause.TheVariants.{NoMemory as OutOfMemory};
+ghost use Rattle.hiphop_main.specs.Play.{IsPlay, IsInputDue, Ends, Played, PlaysLog, SaysUsage, IsUsageEnd, Accepts, CompletesUnlessCutOff, seen, input_limit};
+ghost use Rattle.hiphop_main.specs.Status.{status_of, refusal_line as due_line};
+
+use crate::ending::{Cause, ModuleKind, Outcome};
+use crate::refusal::refusal_line;
+use crate::run::play_lines;
+use crate::script::{ScriptFault, read_script};
+use hh_base::memory::NoMemory;
+use hh_base::value::Pos;
+use hh_base::words::Words;
+use hh_io::fault::{PutEnd, ReadEnd};
+use hh_io::sink::{Sink, put_all};
+use hh_io::source::{Source, read_all};
+use std::alloc::Global;
+
+/// The most bytes that an input has.
+const INPUT_LIMIT: usize = 16_777_216;
+
+/// Whether the words are those of the command.
+fn is_play(words: &Words) -> bool
+    ensures { IsTrue result ↔ IsPlay words.now }
+{
+    words.len() == 1 && words.get(0) == Some("play")
+}
+
+/// Writes the line of a refusal.
+fn refuse<K: Sink>(alloc: Global, sink: &mut K, cause: Cause) -> Cause
+    ensures { Ends cause (due_line cause) (K.written sink.old) (K.written sink.new) (K.faults sink.old) (K.faults sink.new) result }
+{
+    let Ok(line) = refusal_line(alloc, cause) else {
+        return Cause::NoMemory;
+    };
+    match put_all(sink, line.as_bytes()) {
+        Ok(()) => cause,
+        Err(PutEnd::Fault) => Cause::WriteFault,
+        Err(PutEnd::NoMemory) => Cause::NoMemory,
+    }
+}
+
+/// Plays an input that was read whole.
+fn play_input<K: Sink>(alloc: Global, input: &[u8], sink: &mut K) -> Cause
+    requires { length input.now ≤ input_limit }
+    ensures { ((due : ACause) × (text : List ℕ) × IsInputDue input.now due text
+        × Ends due text (K.written sink.old) (K.written sink.new) (K.faults sink.old) (K.faults sink.new) result)
+        ⊎ ((result ≡ OutOfMemory) × Appends (K.written sink.old) (K.written sink.new) [] × (K.faults sink.new ≡ K.faults sink.old)) }
+{
+    let script = match read_script(alloc, input) {
+        Ok(script) => script,
+        Err(ScriptFault::NotBuilt) => {
+            return refuse(alloc, sink, Cause::Module(Pos(0), ModuleKind::NotBuilt, 0));
+        }
+        Err(ScriptFault::NoMemory) => return Cause::NoMemory,
+    };
+    match play_lines(alloc, &script.program, &script.lines, sink) {
+        Ok(()) => Cause::Fine,
+        Err(PutEnd::Fault) => Cause::WriteFault,
+        Err(PutEnd::NoMemory) => Cause::NoMemory,
+    }
+}
+
+/// Reads the source to its end, and plays the module and the scenario that it holds. Writes the log of the
+/// scenario, or the line of the first refusal.
+pub fn play<S: Source, K: Sink>(
+    alloc: Global,
+    words: &Words,
+    source: &mut S,
+    sink: &mut K,
+) -> Outcome
+    ensures status { result.status ≡ status_of result.cause }
+    ensures played { Played words.now (seen (S.rest source.old) (S.rest source.new) (S.faults source.old) (S.faults source.new)
+        (K.written sink.old) (K.written sink.new) (K.faults sink.old) (K.faults sink.new)) result.cause }
+{
+    let cause = if !is_play(words) {
+        refuse(alloc, sink, Cause::Usage)
+    } else {
+        match read_all(alloc, source, INPUT_LIMIT) {
+            Ok(input) => play_input(alloc, &input, sink),
+            Err(ReadEnd::Fault) => Cause::ReadFault,
+            Err(ReadEnd::TooLong) => refuse(alloc, sink, Cause::TooLong),
+            Err(ReadEnd::NoMemory) => Cause::NoMemory,
+        }
+    };
+    Outcome {
+        status: cause.status(),
+        cause,
+    }
+}
