@@ -2,3 +2,4 @@ pub mod LineLaws
 pub mod Puts
 pub mod Running
 pub mod Scripts
+pub mod Plays

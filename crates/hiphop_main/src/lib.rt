@@ -1,6 +1,7 @@
 //! The commands of `hiphop`.
 #![tactic(auto)]
 
+pub mod command;
 pub mod ending;
 pub mod play;
 mod refusal;

@@ -11,7 +11,6 @@ use crate::ending::{Cause, ModuleKind, Outcome};
 use crate::refusal::refusal_line;
 use crate::run::play_lines;
 use crate::script::{ScriptFault, read_script};
-use hh_base::memory::NoMemory;
 use hh_base::value::Pos;
 use hh_base::words::Words;
 use hh_io::fault::{PutEnd, ReadEnd};
@@ -26,7 +25,10 @@ const INPUT_LIMIT: usize = 16_777_216;
 fn is_play(words: &Words) -> bool
     ensures { IsTrue result ↔ IsPlay words.now }
 {
-    words.len() == 1 && words.get(0) == Some("play")
+    let Some(word) = words.get(0) else {
+        return false;
+    };
+    words.len() == 1 && word == "play"
 }
 
 /// Writes the line of a refusal.
@@ -64,6 +66,27 @@ fn play_input<K: Sink>(alloc: Global, input: &[u8], sink: &mut K) -> Cause
     }
 }
 
+/// Does what the words ask for, and answers how that ended.
+fn end_of_play<S: Source, K: Sink>(
+    alloc: Global,
+    words: &Words,
+    source: &mut S,
+    sink: &mut K,
+) -> Cause
+    ensures { Played words.now (seen (S.rest source.old) (S.rest source.new) (S.faults source.old) (S.faults source.new)
+        (K.written sink.old) (K.written sink.new) (K.faults sink.old) (K.faults sink.new)) result }
+{
+    if !is_play(words) {
+        return refuse(alloc, sink, Cause::Usage);
+    }
+    match read_all(alloc, source, INPUT_LIMIT) {
+        Ok(input) => play_input(alloc, &input, sink),
+        Err(ReadEnd::Fault) => Cause::ReadFault,
+        Err(ReadEnd::TooLong) => refuse(alloc, sink, Cause::TooLong),
+        Err(ReadEnd::NoMemory) => Cause::NoMemory,
+    }
+}
+
 /// Reads the source to its end, and plays the module and the scenario that it holds. Writes the log of the
 /// scenario, or the line of the first refusal.
 pub fn play<S: Source, K: Sink>(
@@ -73,19 +96,25 @@ pub fn play<S: Source, K: Sink>(
     sink: &mut K,
 ) -> Outcome
     ensures status { result.status ≡ status_of result.cause }
+
+    // How the call ends, by its cause.
     ensures played { Played words.now (seen (S.rest source.old) (S.rest source.new) (S.faults source.old) (S.faults source.new)
         (K.written sink.old) (K.written sink.new) (K.faults sink.old) (K.faults sink.new)) result.cause }
+
+    // Where it is fine, the source was read to its end and the print of the one legal log was written.
+    ensures fine { result.cause ≡ Cause.Fine → PlaysLog words.now (seen (S.rest source.old) (S.rest source.new) (S.faults source.old) (S.faults source.new)
+        (K.written sink.old) (K.written sink.new) (K.faults sink.old) (K.faults sink.new)) }
+
+    // Usage exactly where the words are no command.
+    ensures usage { result.cause ≡ Cause.Usage → SaysUsage words.now (seen (S.rest source.old) (S.rest source.new) (S.faults source.old) (S.faults source.new)
+        (K.written sink.old) (K.written sink.new) (K.faults sink.old) (K.faults sink.new)) }
+    ensures usage_due { ¬ IsPlay words.now → IsUsageEnd result.cause }
+
+    // A program with its scenario is played.
+    ensures complete { Accepts words.now (S.rest source.old) → CompletesUnlessCutOff (seen (S.rest source.old) (S.rest source.new) (S.faults source.old) (S.faults source.new)
+        (K.written sink.old) (K.written sink.new) (K.faults sink.old) (K.faults sink.new)) result.cause }
 {
-    let cause = if !is_play(words) {
-        refuse(alloc, sink, Cause::Usage)
-    } else {
-        match read_all(alloc, source, INPUT_LIMIT) {
-            Ok(input) => play_input(alloc, &input, sink),
-            Err(ReadEnd::Fault) => Cause::ReadFault,
-            Err(ReadEnd::TooLong) => refuse(alloc, sink, Cause::TooLong),
-            Err(ReadEnd::NoMemory) => Cause::NoMemory,
-        }
-    };
+    let cause = end_of_play(alloc, words, source, sink);
     Outcome {
         status: cause.status(),
         cause,
