@@ -1,29 +1,16 @@
 -- The print of replies, a line for each. (This project's own.)
-use Rattle.std.specs.Prelude.{ℕ, ◌+◌, ◌==◌, if◌then◌else◌, Bool, true, false, List, [], ◌∷◌, ◌++◌, codes, decimal}
-use Rattle.std.specs.Fmt.{signed_decimal}
+use Rattle.std.specs.Prelude.{ℕ, ◌+◌, Bool, true, false, List, [], ◌∷◌, ◌++◌, codes, decimal}
 use Rattle.std.specs.List.{flat_map}
 use Rattle.hh_base.specs.declared.value.Value.{Value}
 use Rattle.hh_base.specs.declared.value.Value.TheVariants as value
 use Rattle.hh_base.specs.declared.value.FaultKind.{FaultKind}
 use Rattle.hh_base.specs.declared.value.FaultKind.TheVariants.{Divide, Overflow, TextLong}
+use Rattle.hh_base.specs.Literal.{printed as literal}
 use Rattle.hh_term.specs.declared.program.SignalDecl.{SignalDecl}
 use Rattle.reactor.specs.declared.reply.Reply.{Reply}
 use Rattle.reactor.specs.declared.reply.Reply.TheVariants.{Done, Causality, Multiple, Fault}
 use Rattle.reactor.specs.Core.{name_at}
 use Rattle.reactor.specs.Legal.{Log, replies_in}
-
--- a byte of a quoted text: quote, backslash, LF and TAB have escapes
-abbrev pub escaped : ℕ → List ℕ
-escaped b =
-    if b == 34 then codes "\\\"" else (if b == 92 then codes "\\\\" else (if b == 10 then codes "\\n" else (if b == 9 then codes "\\t" else b ∷ [])))
-
--- the literal of a value
-abbrev pub literal : Value → List ℕ
-literal value.Unit = codes "unit"
-literal (value.Int n) = signed_decimal n
-literal (value.Bool true) = codes "true"
-literal (value.Bool false) = codes "false"
-literal (value.Text t) = 34 ∷ flat_map escaped t ++ 34 ∷ []
 
 -- the value that a signal carries; a pure one carries none
 abbrev pub carried : Value → List ℕ

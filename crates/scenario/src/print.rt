@@ -1,11 +1,11 @@
 //! The print of replies.
 ghost use Rattle.std.specs.Prelude.{◌≡◌, ◌+◌, ◌<◌, ◌^◌, ◌∷◌, ◌++◌, [], ℕ, List, IfOk, OnOk, OnErr, codes, decimal};
-ghost use Rattle.std.specs.Fmt.{signed_decimal};
 ghost use Rattle.std.specs.List.{flat_map};
 ghost use Rattle.reactor.specs.Core.{name_at};
 ghost use Rattle.reactor.specs.declared.reply.Reply.{Reply as AReply};
-ghost use Rattle.scenario.specs.Print.{carried, ended_text, escaped, fault_word, literal, number_after, output_text, printed, reply_line, reply_text, spaced};
+ghost use Rattle.scenario.specs.Print.{carried, ended_text, fault_word, number_after, output_text, printed, reply_line, reply_text, spaced};
 
+use hh_base::literal::print_literal;
 use hh_base::value::{FaultKind, NoMemory, Pos, Value};
 use hh_term::program::SignalDecl;
 use reactor::reply::{Done, Names, Reply};
@@ -16,55 +16,6 @@ fn print_number(number: u64, out: &mut Vec<u8>) -> Result<(), NoMemory>
 {
     let text = format!(in *out.allocator(); "{number}")?;
     out.extend_from_slice(text.as_bytes())?;
-    Ok(())
-}
-
-/// Adds a number with its sign.
-fn print_int(number: i64, out: &mut Vec<u8>) -> Result<(), NoMemory>
-    ensures { OnOk result (out.new.items ≡ out.old.items ++ signed_decimal number) }
-{
-    let text = format!(in *out.allocator(); "{number}")?;
-    out.extend_from_slice(text.as_bytes())?;
-    Ok(())
-}
-
-/// Adds a byte of a quoted text.
-fn print_escaped(byte: u8, out: &mut Vec<u8>) -> Result<(), NoMemory>
-    ensures { OnOk result (out.new.items ≡ out.old.items ++ escaped byte) }
-{
-    match byte {
-        b'"' => out.extend_from_slice(b"\\\"")?,
-        b'\\' => out.extend_from_slice(b"\\\\")?,
-        b'\n' => out.extend_from_slice(b"\\n")?,
-        b'\t' => out.extend_from_slice(b"\\t")?,
-        _ => out.push(byte)?,
-    }
-    Ok(())
-}
-
-/// Adds a text between quotes.
-fn print_quoted(text: &[u8], out: &mut Vec<u8>) -> Result<(), NoMemory>
-    ensures { OnOk result (out.new.items ≡ out.old.items ++ 34 ∷ flat_map escaped text.now ++ 34 ∷ []) }
-{
-    out.push(b'"')?;
-    for byte in text {
-        print_escaped(*byte, out)?;
-    }
-    out.push(b'"')?;
-    Ok(())
-}
-
-/// Adds the literal of a value.
-fn print_value(value: &Value, out: &mut Vec<u8>) -> Result<(), NoMemory>
-    ensures { OnOk result (out.new.items ≡ out.old.items ++ literal value.now) }
-{
-    match value {
-        Value::Unit => out.extend_from_slice(b"unit")?,
-        Value::Int(number) => print_int(*number, out)?,
-        Value::Bool(true) => out.extend_from_slice(b"true")?,
-        Value::Bool(false) => out.extend_from_slice(b"false")?,
-        Value::Text(text) => print_quoted(text.as_bytes(), out)?,
-    }
     Ok(())
 }
 
@@ -100,7 +51,7 @@ fn print_carried(value: &Value, out: &mut Vec<u8>) -> Result<(), NoMemory>
         return Ok(());
     }
     out.push(b'=')?;
-    print_value(value, out)
+    print_literal(*out.allocator(), value, out)
 }
 
 fn print_done(
