@@ -93,15 +93,8 @@ fn plays_scenarios(rt: HostRuntime) -> Result<(), Fail> {
 
 #[test]
 fn tells_failed_reads(rt: HostRuntime) -> Result<(), Fail> {
-    for call in 0..2 {
-        let played = call(
-            rt.alloc(),
-            "play",
-            PAUSE.as_bytes(),
-            1_000_000,
-            &[call],
-            &[],
-        )?;
+    for at in 0..2 {
+        let played = call(rt.alloc(), "play", PAUSE.as_bytes(), 1_000_000, &[at], &[])?;
         assert_eq!(rt; played.outcome.status, 1);
         assert_eq!(rt; played.text.len(), 0);
     }
@@ -110,25 +103,29 @@ fn tells_failed_reads(rt: HostRuntime) -> Result<(), Fail> {
 
 #[test]
 fn tells_failed_writes(rt: HostRuntime) -> Result<(), Fail> {
-    for call in 0..14u8 {
+    for at in 0..14u8 {
         let played = call(
             rt.alloc(),
             "play",
             PAUSE.as_bytes(),
             1,
             &[],
-            &[u64::from(call)],
+            &[u64::from(at)],
         )?;
         assert_eq!(rt; played.outcome.status, 6);
-        assert_eq!(rt; played.text.len(), usize::from(call));
+        assert_eq!(rt; played.text.len(), usize::from(at));
     }
     Ok(())
 }
 
 #[test]
 fn refuses_what_is_too_long(rt: HostRuntime) -> Result<(), Fail> {
-    for (size, status) in [(16_777_216, 3), (16_777_217, 8)] {
-        let input = vec![in rt.alloc(); b' '; size]?;
+    for (byte, size, status) in [
+        (b' ', 16_777_216, 3),
+        (b'{', 16_777_216, 3),
+        (b' ', 16_777_217, 8),
+    ] {
+        let input = vec![in rt.alloc(); byte; size]?;
         let played = call(rt.alloc(), "play", &input, 1_000_000, &[], &[])?;
         assert_eq!(rt; played.outcome.status, status);
     }
@@ -144,6 +141,117 @@ fn knows_its_words(rt: HostRuntime) -> Result<(), Fail> {
             played.text.as_slice(),
             b"! usage: hiphop play, compile, play_net, serve [--workers N], gen --seed N --size N\n".as_slice()
         );
+    }
+    Ok(())
+}
+
+/// A text of this many copies of a piece between two others.
+fn repeated(
+    alloc: Global,
+    before: &str,
+    piece: &str,
+    count: usize,
+    after: &str,
+) -> Result<String, Fail> {
+    let mut text = String::from_str(alloc, before)?;
+    for _ in 0..count {
+        text.push_str(piece)?;
+    }
+    text.push_str(after)?;
+    Ok(text)
+}
+
+const REFUSED: &str = "! module 0 NotBuilt\n";
+
+// Each at its edge, and one past it.
+#[test]
+fn keeps_its_limits(rt: HostRuntime) -> Result<(), Fail> {
+    let react = "}\n%% scenario\nreact";
+    let table = [
+        ("module M() {", "pause;", 32768, react, "1:\n"),
+        ("module M() {", "pause;", 32769, react, REFUSED),
+        (
+            "module ",
+            "n",
+            255,
+            "() {}\n%% scenario\nreact",
+            "1: done\n",
+        ),
+        ("module ", "n", 256, "() {}\n%% scenario\nreact", REFUSED),
+    ];
+    for (before, piece, count, after, text) in table {
+        let input = repeated(rt.alloc(), before, piece, count, after)?;
+        let played = call(rt.alloc(), "play", input.as_bytes(), 1_000_000, &[], &[])?;
+        assert_eq!(rt;
+            played.text.as_slice(),
+            text.as_bytes(),
+            "{before}{piece} {count}"
+        );
+    }
+    Ok(())
+}
+
+#[test]
+fn nests_at_most_128_brackets(rt: HostRuntime) -> Result<(), Fail> {
+    for (depth, text) in [(127, "1: done\n"), (128, REFUSED)] {
+        let input = repeated(rt.alloc(), "module M(in A) {", "if (A.now) {", depth, "")?;
+        let input = repeated(
+            rt.alloc(),
+            input.as_str(),
+            "}",
+            depth + 1,
+            "\n%% scenario\nreact",
+        )?;
+        let played = call(rt.alloc(), "play", input.as_bytes(), 1_000_000, &[], &[])?;
+        assert_eq!(rt; played.text.as_slice(), text.as_bytes(), "{depth}");
+    }
+    Ok(())
+}
+
+#[test]
+fn plays_a_long_scenario(rt: HostRuntime) -> Result<(), Fail> {
+    let input = repeated(
+        rt.alloc(),
+        "module M() {}\n%% scenario\n",
+        "react\n",
+        100_000,
+        "",
+    )?;
+    let played = call(rt.alloc(), "play", input.as_bytes(), 1_000_000, &[], &[])?;
+    assert_eq!(rt; played.outcome.status, 0);
+    assert_eq!(rt;
+        played.text.len(),
+        9 * 3 + 90 * 4 + 900 * 5 + 9_000 * 6 + 90_000 * 7 + 8 + 5
+    );
+    Ok(())
+}
+
+#[test]
+fn refuses_what_is_no_input(rt: HostRuntime) -> Result<(), Fail> {
+    let table = [
+        "module pause() {}",
+        "module M(in A, out A) {}",
+        "module M(in A) { emit A; }",
+        "module M(out O) { if (O.now) {} }",
+        "module M() { emit X; }",
+        "module M(in A,) {}",
+        "module M() { pause }",
+        "module M() {} module N() {}",
+        "module M() { // no comments yet\n}",
+        "module M(in \u{e9}) {}",
+        "module M() {\0}",
+        "module M(in A) {}\n%% scenario\nreact\r\n",
+        "module M(in A) {}\n%% scenario\n\nreact",
+        "module M(in A) {}\n%% scenario\nreact  A",
+        "module M(in A) {}\n%% scenario\nreact A ",
+        "module M(in A) {}\n%% scenario\nreactA",
+        "module M(in A, out O) {}\n%% scenario\nreact O",
+        "module M() {}\n%% scenario\r",
+        "module M() {}\n%% scenario\n%% scenario",
+        "module M() {}\n %% scenario\nreact",
+    ];
+    for input in table {
+        check(&rt, rt.alloc(), input, 3, REFUSED)?;
     }
     Ok(())
 }
