@@ -1,5 +1,6 @@
 //! Whole calls, with expected texts worked out by hand.
 
+use crate::hiphop_in_memory;
 use hh_base::words::Words;
 use hh_io::memory::{MemSink, MemSource};
 use hiphop_main::command::hiphop;
@@ -129,6 +130,17 @@ fn refuses_what_is_too_long(rt: HostRuntime) -> Result<(), Fail> {
         let played = call(rt.alloc(), "play", &input, 1_000_000, &[], &[])?;
         assert_eq!(rt; played.outcome.status, status);
     }
+    Ok(())
+}
+
+#[test]
+fn plays_in_memory(rt: HostRuntime) -> Result<(), Fail> {
+    let mut words = Words::new(rt.alloc());
+    words.push(rt.alloc(), "play")?;
+    let input = Vec::from_slice(rt.alloc(), PAUSE.as_bytes())?;
+    let played = hiphop_in_memory(rt.alloc(), &words, input);
+    assert_eq!(rt; played.outcome.status, 0);
+    assert_eq!(rt; played.text.as_slice(), b"1:\n2: O done\n3:\n".as_slice());
     Ok(())
 }
 
