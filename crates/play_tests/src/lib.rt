@@ -2,6 +2,7 @@
 #![tactic(auto)]
 
 ghost use Rattle.std.specs.Prelude.{◌≡◌, ◌≢◌};
+ghost use Rattle.hiphop_main.specs.Play.{IsLogText, IsPlay, IsUsageEnd};
 ghost use Rattle.hiphop_main.specs.Status.{status_of};
 
 use hh_base::words::Words;
@@ -21,9 +22,11 @@ pub struct InMemory {
 }
 
 /// A call of `hiphop` over an input and an output that never fail. It ends neither with a read fault nor
-/// with a write fault.
+/// with a write fault. Where it is fine, the text is the print of the one legal log of the input.
 pub fn hiphop_in_memory(alloc: Global, words: &Words, input: Vec<u8>) -> InMemory
     ensures status { result.outcome.status ≡ status_of result.outcome.cause }
+    ensures log { result.outcome.cause ≡ Cause.Fine → IsLogText input.items result.text.items }
+    ensures usage_due { ¬ IsPlay words.now → IsUsageEnd result.outcome.cause }
     ensures no_read_fault { result.outcome.cause ≢ Cause.ReadFault }
     ensures no_write_fault { result.outcome.cause ≢ Cause.WriteFault }
 {

@@ -120,6 +120,20 @@ fn tells_failed_writes(rt: HostRuntime) -> Result<(), Fail> {
 }
 
 #[test]
+fn tells_faults_at_the_first_call(rt: HostRuntime) -> Result<(), Fail> {
+    let input = b"module M() {}\n%% scenario\nreact\nreact\n".as_slice();
+    for (reads, writes, status) in [
+        ([0u64].as_slice(), [].as_slice(), 1),
+        ([].as_slice(), [0u64].as_slice(), 6),
+    ] {
+        let played = call(rt.alloc(), "play", input, 1_000_000, reads, writes)?;
+        assert_eq!(rt; played.outcome.status, status);
+        assert_eq!(rt; played.text.len(), 0);
+    }
+    Ok(())
+}
+
+#[test]
 fn refuses_what_is_too_long(rt: HostRuntime) -> Result<(), Fail> {
     for (byte, size, status) in [
         (b' ', 16_777_216, 3),
