@@ -3,7 +3,9 @@
 ghost use Rattle.std.specs.Prelude.{◌≡◌, IfOk, map};
 ghost use Rattle.hh_term.specs.FirstLanguage.{IsFirstLanguage};
 ghost use Rattle.hh_term.specs.Kernel.{Kernel};
-ghost use Rattle.hh_term.specs.Views.{statement_of};
+ghost use Rattle.host_expr.specs.Expression.{expression_of, Now};
+ghost use Rattle.hh_term.specs.Statement.{If, Seq};
+ghost use Rattle.hh_term.specs.Views.{node_statement, statement_of};
 ghost use Rattle.hh_term.specs.Viewed.{kernel_of};
 ghost use Rattle.first_language.specs.Kernel.{kernel_statement};
 ghost use Rattle.first_language.specs.Programs.{direction_of, signal_of, Spells, Reading};
@@ -41,7 +43,31 @@ fn signals(alloc: Global, declarations: &[Declaration]) -> Result<Vec<SignalDecl
     Ok(signals)
 }
 
-/// Each node stands at the position of its statement, and a test at that of its name.
+/// A test stands at its name.
+fn test(pos: u32, signal: u32) -> Expr<u32>
+    ensures { expression_of result ≡ Now signal }
+{
+    Expr {
+        pos: Pos(pos),
+        node: ExprNode::Now(signal),
+    }
+}
+
+fn choice(alloc: Global, test: Expr<u32>, then: Term, other: Term) -> Result<TermNode, NoMemory>
+    ensures { IfOk result (λ n. node_statement n ≡ If (expression_of test) (statement_of then) (statement_of other)) }
+{
+    let then = Box::new(alloc, then)?;
+    Ok(TermNode::If(test, then, Box::new(alloc, other)?))
+}
+
+fn sequence(alloc: Global, first: Term, second: Term) -> Result<TermNode, NoMemory>
+    ensures { IfOk result (λ n. node_statement n ≡ Seq (statement_of first) (statement_of second)) }
+{
+    let first = Box::new(alloc, first)?;
+    Ok(TermNode::Seq(first, Box::new(alloc, second)?))
+}
+
+/// Each node stands at the position of its statement.
 fn term(alloc: Global, statement: &Statement) -> Result<Term, NoMemory>
     ensures { IfOk result (λ t. statement_of t ≡ kernel_statement statement.now) }
 {
@@ -50,18 +76,14 @@ fn term(alloc: Global, statement: &Statement) -> Result<Term, NoMemory>
         StatementNode::Pause => TermNode::Pause,
         StatementNode::Emit(signal) => TermNode::Emit(*signal, None),
         StatementNode::If(pos, signal, then, other) => {
-            let test = Expr {
-                pos: Pos(*pos),
-                node: ExprNode::Now(*signal),
-            };
             let then = term(alloc, then.get())?;
             let other = term(alloc, other.get())?;
-            TermNode::If(test, Box::new(alloc, then)?, Box::new(alloc, other)?)
+            choice(alloc, test(*pos, *signal), then, other)?
         }
         StatementNode::Seq(first, second) => {
             let first = term(alloc, first.get())?;
             let second = term(alloc, second.get())?;
-            TermNode::Seq(Box::new(alloc, first)?, Box::new(alloc, second)?)
+            sequence(alloc, first, second)?
         }
     };
     Ok(Term {

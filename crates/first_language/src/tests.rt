@@ -119,3 +119,20 @@ fn builds_the_program(rt: HostRuntime) {
         _ => assert!(rt; false),
     }
 }
+
+#[test]
+fn copies_the_interface(rt: HostRuntime) {
+    let alloc = rt.alloc();
+    let program = read_module(alloc, "module M(in A, out B) { pause; }".as_bytes());
+    let program = program.expect(&rt, "a value");
+    let interface = program.interface(alloc).expect(&rt, "a value");
+    let names = ["A", "B"];
+    assert!(rt; interface.signals().len() == names.len());
+    for (signal, name) in interface.signals().iter().zip(names) {
+        let copy = signal.copy(alloc).expect(&rt, "a value");
+        let found = copy.name.expect(&rt, "a value");
+        assert!(rt; found.as_str() == name);
+        assert!(rt; copy.dir == signal.dir);
+        assert!(rt; copy.pos == signal.pos);
+    }
+}

@@ -1,5 +1,5 @@
 //! Text values.
-ghost use Rattle.std.specs.Prelude.{◌≡◌, ◌+◌, ◌<◌, ◌≤◌, ◌↔◌, [], ◌++◌, length, true, false, IsTrue, IfOk, OnOk, IsErrOf, MatchOption};
+ghost use Rattle.std.specs.Prelude.{◌≡◌, ◌+◌, ◌<◌, ◌≤◌, ◌↔◌, [], ◌++◌, length, true, false, IsTrue, IfOk, OnOk, OnErr, IsErrOf, MatchOption};
 ghost use Rattle.std.specs.Str.{is_utf8};
 ghost use Rattle.hh_base.specs.Text.{text_byte, has_text_bytes, IsText};
 ghost use Rattle.hh_base.specs.declared.text.TextFault.TheVariants.{NoMemory as OutOfMemory};
@@ -147,6 +147,16 @@ impl Text {
         let mut string = String::from_str(alloc, self.string.as_str())?;
         string.push_str(other.string.as_str())?;
         Ok(Text { string })
+    }
+
+    /// Adds the other text at the end, in amortized time of the other. After an Err it is as before.
+    pub fn append(&mut self, other: &Text) -> Result<(), NoMemory>
+        requires { length self.old + length other.now ≤ 4096 }
+        ensures ok { OnOk result (self.new ≡ self.old ++ other.now) }
+        ensures err { OnErr result (self.new ≡ self.old) }
+    {
+        self.string.push_str(other.string.as_str())?;
+        Ok(())
     }
 }
 

@@ -8,7 +8,7 @@ use Rattle.host_expr.specs.Expression.{Expression, Int, Flag, Text, Now, Pre, No
 use Rattle.host_expr.specs.Environment.{Env, is_decided, is_known, is_present}
 use Rattle.host_expr.specs.Evaluation.{truth, reads_known, then_with, run, eval_of, negated, arith, compared}
 use Rattle.host_expr.specs.Knows.{CellBelow, EnvBelow, EvaluationRises}
-use Rattle.host_expr.proofs.Tests.{and_first, and_second, and_both}
+use Rattle.host_expr.proofs.Truths.{and_first, and_second, and_both}
 use Rattle.host_expr.proofs.Information.{cell_refl, decided_same, known_same}
 
 module _ (E F : Env) (args : List Value) (le : EnvBelow E F) where

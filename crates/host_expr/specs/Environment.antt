@@ -8,6 +8,7 @@ use Rattle.hh_base.specs.declared.value.Value.TheVariants as value
 use Rattle.host_expr.specs.declared.cell.Cell.{Cell}
 use Rattle.host_expr.specs.declared.cell.Cell.TheVariants as cell
 use Rattle.host_expr.specs.declared.cell.SigCell.{SigCell}
+use Rattle.host_expr.specs.declared.cell.Cells.{Cells}
 
 -- an environment gives each signal's cell
 abbrev pub Env : Type 0
@@ -40,3 +41,7 @@ blank s = unsolved false value.Unit
 -- a list of cells as an environment
 abbrev pub env_of : List SigCell → Env
 env_of cells s = slice_index_or cells s (unsolved false value.Unit)
+
+-- the environment that the cells of the code are: of a signal past their end nothing is known, and it was absent with no value before
+abbrev pub environment_of : Cells → Env
+environment_of cells = env_of cells.signals.items

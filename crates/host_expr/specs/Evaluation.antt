@@ -50,15 +50,23 @@ abbrev pub is_zero : ℤ → Bool
 is_zero (pos zero) = true
 is_zero _ = false
 
--- division truncates toward zero; the remainder has the sign of the dividend and overflows where the quotient does
+-- two numbers; division truncates toward zero, the remainder has the sign of the dividend and overflows where the quotient does
+abbrev pub calculated : Pos → Op → ℤ → ℤ → Cell
+calculated p Add x y = number_at p (x +ℤ y)
+calculated p Sub x y = number_at p (x -ℤ y)
+calculated p Mul x y = number_at p (x *ℤ y)
+calculated p Div x y = if is_zero y then cell.Faulted p Divide else number_at p (int_div x y)
+calculated p Rem x y = if is_zero y then cell.Faulted p Divide else (if in_range (int_div x y) then cell.Known (value.Int (int_rem x y)) else cell.Faulted p Overflow)
+
+-- two texts; `+` joins them, and no other operator takes any
+abbrev pub joined : Pos → Op → List ℕ → List ℕ → Cell
+joined p Add s t = if nat_le (length (s ++ t)) 4096 then cell.Known (value.Text (s ++ t)) else cell.Faulted p TextLong
+joined p _ s t = cell.Unknown
+
 abbrev pub arith : Pos → Op → Value → Value → Cell
-arith p Add (value.Int x) (value.Int y) = number_at p (x +ℤ y)
-arith p Sub (value.Int x) (value.Int y) = number_at p (x -ℤ y)
-arith p Mul (value.Int x) (value.Int y) = number_at p (x *ℤ y)
-arith p Div (value.Int x) (value.Int y) = if is_zero y then cell.Faulted p Divide else number_at p (int_div x y)
-arith p Rem (value.Int x) (value.Int y) = if is_zero y then cell.Faulted p Divide else (if in_range (int_div x y) then cell.Known (value.Int (int_rem x y)) else cell.Faulted p Overflow)
-arith p Add (value.Text s) (value.Text t) = if nat_le (length (s ++ t)) 4096 then cell.Known (value.Text (s ++ t)) else cell.Faulted p TextLong
-arith p _ v w = cell.Unknown
+arith p op (value.Int x) (value.Int y) = calculated p op x y
+arith p op (value.Text s) (value.Text t) = joined p op s t
+arith p op _ _ = cell.Unknown
 
 abbrev pub same_bytes : List ℕ → List ℕ → Bool
 same_bytes [] [] = true

@@ -4,8 +4,8 @@ use Rattle.hh_base.specs.declared.value.Pos.{Pos}
 use Rattle.host_expr.specs.declared.expr.Op.{Op}
 use Rattle.host_expr.specs.declared.expr.Rel.{Rel}
 use Rattle.host_expr.specs.declared.expr.Expr.{Expr}
-use Rattle.host_expr.specs.declared.expr.ExprNode.{ExprNode}
-use Rattle.host_expr.specs.declared.expr.ExprNode.TheVariants as node
+use Rattle.host_expr.specs.declared.expr.ExprNode.TheOpen as node
+use Rattle.host_expr.specs.declared.expr.ExprNode.TheFolds.{fold-Expr}
 
 -- an expression over numbered signals and parameters; p is the position of its operator
 pub data Expression : Type 0 where
@@ -25,26 +25,30 @@ pub data Expression : Type 0 where
   Or : (a b : Expression) → Expression
   Choose : (a b c : Expression) → Expression
 
-abbrev pub node_of : Pos → ExprNode ℕ → Expression
-node_of p (node.Int n) = Int n
-node_of p (node.Bool b) = Flag b
-node_of p (node.Text t) = Text t
-node_of p (node.Now s) = Now s
-node_of p (node.Pre s) = Pre s
-node_of p (node.NowVal s) = NowVal s
-node_of p (node.PreVal s) = PreVal s
-node_of p (node.Arg n) = Arg n
-node_of p (node.Not' _ pa a) = Not (node_of pa a)
-node_of p (node.Neg' _ pa a) = Neg p (node_of pa a)
-node_of p (node.Arith' op _ pa a _ pb b) = Arith p op (node_of pa a) (node_of pb b)
-node_of p (node.Compare' rel _ pa a _ pb b) = Compare rel (node_of pa a) (node_of pb b)
-node_of p (node.And' _ pa a _ pb b) = And (node_of pa a) (node_of pb b)
-node_of p (node.Or' _ pa a _ pb b) = Or (node_of pa a) (node_of pb b)
-node_of p (node.Choose' _ pa a _ pb b _ pc c) = Choose (node_of pa a) (node_of pb b) (node_of pc c)
+-- a node's expression by the position of the node, with the expressions of its parts in their places
+abbrev pub node_expression : node.ExprNode-F ℕ (Pos → Expression) Expression → Pos → Expression
+node_expression (node.Int n) p = Int n
+node_expression (node.Bool b) p = Flag b
+node_expression (node.Text t) p = Text t
+node_expression (node.Now s) p = Now s
+node_expression (node.Pre s) p = Pre s
+node_expression (node.NowVal s) p = NowVal s
+node_expression (node.PreVal s) p = PreVal s
+node_expression (node.Arg n) p = Arg n
+node_expression (node.Not a) p = Not a
+node_expression (node.Neg a) p = Neg p a
+node_expression (node.Arith op a b) p = Arith p op a b
+node_expression (node.Compare rel a b) p = Compare rel a b
+node_expression (node.And a b) p = And a b
+node_expression (node.Or a b) p = Or a b
+node_expression (node.Choose a b c) p = Choose a b c
+
+abbrev pub expression_at : node.Expr-F ℕ (Pos → Expression) Expression → Expression
+expression_at e = e.node e.pos
 
 -- the tree of an expression of the code
 abbrev pub expression_of : Expr ℕ → Expression
-expression_of e = node_of e.pos e.node
+expression_of = fold-Expr ℕ (Pos → Expression) Expression node_expression expression_at
 
 abbrev pub optional_expression : Option (Expr ℕ) → Option Expression
 optional_expression None = None

@@ -3,6 +3,9 @@ pub mod Environment
 pub mod Evaluation
 pub mod Combination
 pub mod Kinds
+pub mod Misfit
+pub mod Verdicts
 pub mod Measures
 pub mod Knows
 pub mod Reordering
+pub mod Parts

@@ -1,6 +1,12 @@
-//! Expressions over signals: their tree and what they evaluate to.
+//! Expressions over signals: their tree, their kinds and what they evaluate to.
 #![tactic(auto)]
 
+mod arithmetic;
 pub mod cell;
+pub mod check;
+pub mod eval;
 pub mod expr;
 pub mod laws;
+mod part;
+#[cfg(test)]
+mod tests;

@@ -62,13 +62,13 @@ leave_all_clear T (o ∷ os) a h =
     let y = leave_all_clear T os a h in
     record { faults = x.faults ∙ y.faults; doubled = x.doubled ∙ y.doubled }
 
-judged_clear : (T : Table) (os : List Outer) (c : Control) (last : ℕ) (E : Env) (r : Ran) → IsPureTable T → r.stepped.faults ≡ [] → r.stepped.doubled ≡ [] → judged T os c last E r ≡ Completes (completed T os c last E r)
-judged_clear T os c last E r h f d =
+judged_clear : (T : Table) (os : List Outer) (last : ℕ) (E : Env) (r : Ran) → IsPureTable T → r.stepped.faults ≡ [] → r.stepped.doubled ≡ [] → judged T os last E r ≡ Completes (completed T os last E r)
+judged_clear T os last E r h f d =
     let x = leave_all_clear T os r.stepped h in
     let left = leave_all T os r.stepped in
     let P : List ℕ → List (Pos × FaultKind) → Outcome = λ ds gs. (elim ds [
       | s ∷ ss ↦ Doubled (fold (first_declared T) s ss)
-      | [] ↦ (elim gs [ g ∷ gs' ↦ Faulted (fold earlier g gs').0 (fold earlier g gs').1 | [] ↦ Completes (completed T os c last E r) ])
+      | [] ↦ (elim gs [ g ∷ gs' ↦ Faulted (fold earlier g gs').0 (fold earlier g gs').1 | [] ↦ Completes (completed T os last E r) ])
     ]) in
     ap (λ ds. P ds left.faults) (x.doubled ∙ d) ∙ ap (P []) (x.faults ∙ f)
 
@@ -177,7 +177,7 @@ pub record RunIs (signals : List SignalDecl) (p : Statement) (last : ℕ) (c : C
   pub faults : r.stepped.faults ≡ []
   pub doubled : r.stepped.doubled ≡ []
   pub code : r.code ≡ w.code
-  pub next : control_after last c r ≡ w.next
+  pub next : control_after last r ≡ w.next
   pub outputs : AreOutputs signals w.emitted
   pub rests : IsControlOf p w.next
 
@@ -300,11 +300,11 @@ module _
         λ s a b. present_is K.signals given emissions s (E s) run.outputs (directed s (omega arith)) (not_given s) (y s (omega arith)) ∙ sym (as_emitted s (omega arith)) in
         let count : 0 + length before ≡ length K.signals = omega arith in
         record {
-          completed = completed T os c last E r;
+          completed = completed T os last E r;
           completes =
-              ap (λ v. elim v [ [] ↦ concluded T os c last E (program_step T K.statement c E) | s ∷ ss ↦ Undecided (s ∷ ss) ]) (none_left before e run.outputs)
-              ∙ ap (concluded T os c last E) (program_runs K.signals T given K.statement c L.statement rests E d)
-              ∙ judged_clear T os c last E r (pure_at K L.signals) run.faults run.doubled;
+              ap (λ v. elim v [ [] ↦ concluded T os last E (program_step T K.statement c E) | s ∷ ss ↦ Undecided (s ∷ ss) ]) (none_left before e run.outputs)
+              ∙ ap (concluded T os last E) (program_runs K.signals T given K.statement c L.statement rests E d)
+              ∙ judged_clear T os last E r (pure_at K L.signals) run.faults run.doubled;
           interface = length_nows E r.stepped.bag os ∙ length_outers (pure_inputs inputs) before 0 ∙ same;
           signals = ap (passing_below f) (sym count) ∙ sym (present_from K.signals f (pure_inputs inputs) r.stepped.bag E before 0 here);
           units = units_from (pure_inputs inputs) r.stepped.bag E before 0 (λ s a b. (y s (omega arith)).unit);
