@@ -1,6 +1,6 @@
 -- Sets of codes: more codes in, more codes out.
 use Rattle.std.proofs.Common.{◌≡◌, subst, ℕ, zero, suc, ◌+◌, ◌-◌, ◌≤◌, true, ◌&&◌, arith}
-use Rattle.host_expr.proofs.Tests.{or_mono, and_mono, or_left, or_right}
+use Rattle.host_expr.proofs.Truths.{or_mono, and_mono, or_left, or_right}
 use Rattle.hh_term.specs.Codes.{CodeSet, without_end, in_turn, up_to, greater_of, lowered}
 
 up_to_mono : (K L : CodeSet) → ((c : ℕ) → K c ≡ true → L c ≡ true) → (c : ℕ) → up_to K c ≡ true → up_to L c ≡ true

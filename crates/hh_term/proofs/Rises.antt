@@ -4,7 +4,7 @@ use Rattle.host_expr.specs.declared.cell.Cell.{Cell}
 use Rattle.host_expr.specs.declared.cell.Cell.TheVariants as cell
 use Rattle.host_expr.specs.Evaluation.{truth}
 use Rattle.host_expr.specs.Knows.{CellBelow}
-use Rattle.host_expr.proofs.Tests.{or_mono, or_left, or_right}
+use Rattle.host_expr.proofs.Truths.{or_mono, or_left, or_right}
 use Rattle.hh_term.specs.MustCan.{MustCan, Index, Executed, Possible, Bag, gives, one_of, is_end, go_on, sequence, greater, parallel, lower_code, trapped, chosen, held}
 use Rattle.hh_term.specs.Knows.{IndexBelow, CodeBelow, Embeds, ended, OnSignal, CellAbove, MustCanBelow}
 use Rattle.hh_term.proofs.Embedding.{nothing_sub, sub_append, sub_left, sub_right}

@@ -9,7 +9,7 @@ use Rattle.host_expr.specs.declared.cell.SigCell.{SigCell}
 use Rattle.host_expr.specs.Environment.{Env, put}
 use Rattle.host_expr.specs.Combination.{combined, counts_as}
 use Rattle.host_expr.specs.Knows.{TriBelow, CellBelow, SignalBelow, EnvBelow}
-use Rattle.host_expr.proofs.Tests.{and_both, and_first, and_second}
+use Rattle.host_expr.proofs.Truths.{and_both, and_first, and_second}
 use Rattle.hh_term.specs.MustCan.{Table, MustCan, cells_of, hide, status_by, all_known, value_by, raised, round, solve, scoped}
 use Rattle.hh_term.specs.Knows.{Embeds, ended, keep, skip, CellAbove, SameCell, MustCanBelow, MustWithinCan}
 use Rattle.hh_term.proofs.Embedding.{sub_length, cells_sub, without_sub}

@@ -5,7 +5,7 @@ use Rattle.host_expr.specs.declared.cell.Cell.{Cell}
 use Rattle.host_expr.specs.declared.cell.Cell.TheVariants as cell
 use Rattle.host_expr.specs.Environment.{put, unsolved}
 use Rattle.host_expr.specs.Evaluation.{eval_of, truth}
-use Rattle.host_expr.proofs.Tests.{or_mono, or_left, or_right}
+use Rattle.host_expr.proofs.Truths.{or_mono, or_left, or_right}
 use Rattle.hh_term.specs.Statement.{Nothing, Pause, Emit, If, Suspend, Seq, Par, Loop, Trap, Exit, Local, Async}
 use Rattle.hh_term.specs.Selection.{Start}
 use Rattle.hh_term.specs.Codes.{CodeSet, only, either, without_end, static_codes}

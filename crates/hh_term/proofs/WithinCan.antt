@@ -4,7 +4,7 @@ use Rattle.std.proofs.lemmas.Bool.{cases_lt}
 use Rattle.host_expr.specs.declared.cell.Cell.{Cell}
 use Rattle.host_expr.specs.declared.cell.Cell.TheVariants as cell
 use Rattle.host_expr.specs.Evaluation.{truth}
-use Rattle.host_expr.proofs.Tests.{or_left, or_right, and_both}
+use Rattle.host_expr.proofs.Truths.{or_left, or_right, and_both}
 use Rattle.hh_term.specs.Codes.{CodeSet, without_end, in_turn, up_to, greater_of, lowered}
 use Rattle.hh_term.specs.MustCan.{MustCan, Index, Executed, Possible, Bag, gives, one_of, is_end, go_on, sequence, greater, parallel, lower, lower_code, trapped, chosen, held, without, hide}
 use Rattle.hh_term.specs.Knows.{Embeds, ended, OnSignal, SameCell, MustWithinCan, NothingSure}

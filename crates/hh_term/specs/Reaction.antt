@@ -125,34 +125,34 @@ is_earlier f g = nat_lt f.0.0 g.0.0 || (f.0.0 == g.0.0 && nat_lt (fault_rank f.1
 abbrev pub earlier : Pos × FaultKind → Pos × FaultKind → Pos × FaultKind
 earlier f g = cond (is_earlier g f) g f
 
-abbrev pub control_after : ℕ → Control → Ran → Control
-control_after last c r = (elim r.stepped.next [ Some m ↦ At (marks_numbered last m).0 | None ↦ Ended ])
+abbrev pub control_after : ℕ → Ran → Control
+control_after last r = (elim r.stepped.next [ Some m ↦ At (marks_numbered last m).0 | None ↦ Ended ])
 
-abbrev pub completed : Table → List Outer → Control → ℕ → Env → Ran → Completed
-completed T os c last E r =
+abbrev pub completed : Table → List Outer → ℕ → Env → Ran → Completed
+completed T os last E r =
     record {
       signals = map (now_of E r.stepped.bag) os;
       code = r.code;
-      next = control_after last c r;
+      next = control_after last r;
       touches = numbered last (by_site r.stepped.touches);
     }
 
-abbrev pub judged : Table → List Outer → Control → ℕ → Env → Ran → Outcome
-judged T os c last E r =
+abbrev pub judged : Table → List Outer → ℕ → Env → Ran → Outcome
+judged T os last E r =
     let left = leave_all T os r.stepped in
     (elim left.doubled [
       | s ∷ ss ↦ Doubled (fold (first_declared T) s ss)
-      | [] ↦ (elim left.faults [ f ∷ fs ↦ Faulted (fold earlier f fs).0 (fold earlier f fs).1 | [] ↦ Completes (completed T os c last E r) ])
+      | [] ↦ (elim left.faults [ f ∷ fs ↦ Faulted (fold earlier f fs).0 (fold earlier f fs).1 | [] ↦ Completes (completed T os last E r) ])
     ])
 
-abbrev pub concluded : Table → List Outer → Control → ℕ → Env → Option Ran → Outcome
-concluded T os c last E None = Undecided []
-concluded T os c last E (Some r) = judged T os c last E r
+abbrev pub concluded : Table → List Outer → ℕ → Env → Option Ran → Outcome
+concluded T os last E None = Undecided []
+concluded T os last E (Some r) = judged T os last E r
 
 abbrev pub react : Table → List Outer → Statement → Control → ℕ → Outcome
 react T os p c last =
     let E = solved T os (program_must_can T p c) blank in
-    (elim (undecided E os) [ [] ↦ concluded T os c last E (program_step T p c E) | s ∷ ss ↦ Undecided (s ∷ ss) ])
+    (elim (undecided E os) [ [] ↦ concluded T os last E (program_step T p c E) | s ∷ ss ↦ Undecided (s ∷ ss) ])
 
 -- the inputs of a reaction are pairs of a signal and its value
 abbrev pub given_to : List (ℕ × Value) → ℕ → Option Value

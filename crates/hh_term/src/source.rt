@@ -1,0 +1,205 @@
+//! The tree of a module text, as it was written: `R` is a name where it stands in `Modules`, and the number that
+//! it stands for once names are resolved. Each `pos` is the place of a node's first token, if nothing else is said.
+
+ghost use Rattle.std.specs.Prelude.{◌≡◌, true};
+ghost use Rattle.hh_term.specs.Source.{is_source};
+
+use crate::program::Dir;
+use hh_base::name::Name;
+use hh_base::text::Text;
+use hh_base::value::{CombineWord, Kind, Pos, Value};
+use host_expr::expr::Expr;
+use sqlite_items::Items;
+use std::marker::Model;
+
+/// A name that the text refers to.
+#[derive(Drop)]
+pub struct NameAt<R: Drop> {
+    pub pos: Pos,
+    pub name: R,
+}
+
+/// An outermost expression. Its first token may be a parenthesis.
+#[derive(Drop)]
+pub struct ExprAt<R: Drop> {
+    pub pos: Pos,
+    pub expr: Expr<R>,
+}
+
+/// A declaration of a text.
+#[derive(Drop)]
+pub enum Top<R: Drop> {
+    Body(BodyNode<R>),
+    Host(HostNode),
+    Module(ModuleNode<R>),
+}
+
+/// `body NAME(PARAM, ..): ANSWER { EXPR }`. `pos` is its name's.
+#[derive(Drop)]
+pub struct BodyNode<R: Drop> {
+    pub pos: Pos,
+    pub name: Name,
+    pub params: Items<ParamNode>,
+    pub answer: Kind,
+    pub expr: ExprAt<R>,
+}
+
+/// `NAME: KIND`.
+#[derive(Drop)]
+pub struct ParamNode {
+    pub pos: Pos,
+    pub name: Name,
+    pub kind: Kind,
+}
+
+/// `host NAME(KIND, ..): ANSWER;`. `pos` is its name's, and `token` that of the word `host`.
+#[derive(Drop)]
+pub struct HostNode {
+    pub pos: Pos,
+    pub token: Pos,
+    pub name: Name,
+    pub params: Items<Kind>,
+    pub answer: Kind,
+}
+
+/// `module NAME(DECL, ..) BLOCK`. `pos` is its name's.
+#[derive(Drop)]
+pub struct ModuleNode<R: Drop> {
+    pub pos: Pos,
+    pub name: Name,
+    pub decls: Items<DeclNode>,
+    pub block: BlockNode<R>,
+}
+
+/// A signal of a module's interface.
+#[derive(Drop)]
+pub struct DeclNode {
+    pub dir: Dir,
+    pub sig: SigNode,
+}
+
+/// `NAME: KIND = FIRST combine WORD`. A pure signal is written without a kind, and `first` is None where the
+/// text writes no first value.
+#[derive(Drop)]
+pub struct SigNode {
+    pub pos: Pos,
+    pub name: Name,
+    pub kind: Kind,
+    pub first: Option<Value>,
+    pub combine: Option<CombineWord>,
+}
+
+/// `{ STATEMENT .. }`.
+#[cycle(source)]
+#[derive(Drop)]
+pub struct BlockNode<R: Drop> {
+    pub pos: Pos,
+    pub statements: Items<StatementNode<R>>,
+}
+
+#[cycle(source)]
+#[derive(Drop)]
+pub struct StatementNode<R: Drop> {
+    pub pos: Pos,
+    pub what: Statement<R>,
+}
+
+/// A statement, by its words. The truth in `Suspend` says whether it has the word `immediate`.
+#[cycle(source)]
+#[derive(Drop)]
+pub enum Statement<R: Drop> {
+    Nothing,
+    Pause,
+    Halt,
+    Emit(NameAt<R>, Option<ExprAt<R>>),
+    Sustain(NameAt<R>, Option<ExprAt<R>>),
+    If(ExprAt<R>, BlockNode<R>, Option<BlockNode<R>>),
+    Loop(BlockNode<R>),
+    Fork(Items<BlockNode<R>>),
+    Block(BlockNode<R>),
+    Await(Delay<R>),
+    Every(Delay<R>, BlockNode<R>),
+    DoEvery(BlockNode<R>, Plain<R>),
+    Abort(Delay<R>, BlockNode<R>),
+    WeakAbort(Delay<R>, BlockNode<R>),
+    Suspend(bool, ExprAt<R>, BlockNode<R>),
+    Signal(Items<SigNode>, BlockNode<R>),
+    Trap(Name, BlockNode<R>),
+    Break(NameAt<R>),
+    Run(NameAt<R>, Items<Binding<R>>),
+    Async(AsyncNode<R>),
+}
+
+/// What a statement waits for.
+#[derive(Drop)]
+pub enum Delay<R: Drop> {
+    Plain(Plain<R>),
+    Immediate(ExprAt<R>),
+}
+
+/// What a statement waits for from the next instant on: that the expression is true, once or a number of times.
+#[derive(Drop)]
+pub enum Plain<R: Drop> {
+    Once(ExprAt<R>),
+    Count(u8, ExprAt<R>),
+}
+
+/// `LEFT = RIGHT` in a run: a signal of the module that runs, and the signal that stands for it.
+#[derive(Drop)]
+pub struct Binding<R: Drop> {
+    pub left: NameAt<R>,
+    pub right: NameAt<R>,
+}
+
+/// `async (SIGNAL) call BODY(ARG, ..) kill TEXT suspend TEXT resume TEXT;`.
+#[derive(Drop)]
+pub struct AsyncNode<R: Drop> {
+    pub signal: Option<NameAt<R>>,
+    pub body: NameAt<R>,
+    pub args: Items<ExprAt<R>>,
+    pub kill: Option<Text>,
+    pub suspend: Option<Text>,
+    pub resume: Option<Text>,
+}
+
+/// The tree of a whole module text. Some text within the grammar and its limits has it, but for positions: this is
+/// `is_source`. Contracts see the list of its declarations.
+#[derive(Drop)]
+pub struct Modules {
+    tops: Items<Top<Name>>,
+}
+
+impl Model for Modules {
+    ghost use Rattle.std.specs.Prelude.{List, ℕ, ◌≡◌, true};
+    ghost use Rattle.hh_term.specs.declared.source.Top.{Top as ATop};
+    ghost use Rattle.hh_term.specs.Source.{is_source};
+    ghost use Rattle.std.specs.Coded.{codes};
+    ghost use Rattle.hh_base.specs.contracts.name.Name as name;
+    ghost use Rattle.host_expr.specs.contracts.expr.ExprNode as node;
+    ghost use Rattle.hh_term.specs.contracts.source.BlockNode as block;
+
+    ghost Value = { List (ATop (List ℕ)) };
+
+    ghost coded = { Prim.hlevel (codes, (node.the_row name.the_row).coded, (block.the_row name.the_row).coded) };
+
+    ghost view = { λ m. m.tops };
+
+    ghost invariant = { λ m. is_source m.tops ≡ true };
+}
+
+impl Modules {
+    /// Takes no memory.
+    pub fn new(tops: Items<Top<Name>>) -> Modules
+        requires { is_source tops ≡ true }
+        ensures { result ≡ tops }
+    {
+        Modules { tops }
+    }
+
+    pub fn tops(&self) -> &[Top<Name>]
+        ensures tops { result.now ≡ self.now }
+        ensures source { is_source self.now ≡ true }
+    {
+        self.tops.as_slice()
+    }
+}
