@@ -1,0 +1,4 @@
+pub mod BagKind
+pub mod Outcome
+pub mod AnyOrder
+pub mod Truth
