@@ -1,0 +1,14 @@
+pub mod KindSets
+pub mod Bundle
+pub mod Sequences
+pub mod Levels
+pub mod OneToken
+pub mod Lists
+pub mod Choices
+pub mod Combined
+pub mod Nesting
+pub mod Outermost
+pub mod WholeTexts
+pub mod Completions
+pub mod Steps
+pub mod Places

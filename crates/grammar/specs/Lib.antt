@@ -1,0 +1,7 @@
+pub mod Tokens
+pub mod Fault
+pub mod Parser
+pub mod Language
+pub mod Texts
+pub mod Cursors
+pub mod Refusals
