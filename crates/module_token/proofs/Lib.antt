@@ -1,0 +1,17 @@
+pub mod Basics
+pub mod Comments
+pub mod Cuts
+pub mod Digits
+pub mod Found
+pub mod Fronts
+pub mod Heads
+pub mod Keywords
+pub mod Lines
+pub mod Marks
+pub mod Parted
+pub mod Quotes
+pub mod Reading
+pub mod Stands
+pub mod Unquoted
+pub mod Values
+pub mod Walk

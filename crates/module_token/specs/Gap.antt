@@ -1,0 +1,46 @@
+-- What may stand between tokens: blanks and comments. This project's own.
+use Rattle.std.specs.Prelude.{◌≡◌, ◌≢◌, ℕ, ◌==◌, ◌||◌, ◌&&◌, ◌⊎◌, Bool, true, false, List, [], ◌∷◌, ◌++◌, codes}
+use Rattle.std.specs.List.{AllByRecursion}
+
+-- space, tab, LF and CR
+abbrev pub is_blank : ℕ → Bool
+is_blank c = ((c == 32) || (c == 9)) || ((c == 10) || (c == 13))
+
+abbrev pub IsBlank : List ℕ → Type 0
+IsBlank gap = (c : ℕ) × (gap ≡ c ∷ []) × (is_blank c ≡ true)
+
+-- nothing follows, or an LF
+abbrev pub EndsLine : List ℕ → Type 0
+EndsLine [] = Unit {0}
+EndsLine (b ∷ bs) = b ≡ 10
+
+-- `//` and all that stands before the next LF or the end
+abbrev pub IsLineComment : List ℕ → List ℕ → Type 0
+IsLineComment gap rest = (body : List ℕ) × (gap ≡ codes "//" ++ body) × AllByRecursion (λ b. b ≢ 10) body × EndsLine rest
+
+abbrev pub begins_with : ℕ → List ℕ → Bool
+begins_with c [] = false
+begins_with c (b ∷ bs) = b == c
+
+-- `*/` stands first
+abbrev pub starts_close : List ℕ → Bool
+starts_close [] = false
+starts_close (b ∷ bs) = (b == 42) && begins_with 47 bs
+
+-- `*/` stands somewhere
+abbrev pub has_close : List ℕ → Bool
+has_close [] = false
+has_close (b ∷ bs) = starts_close (b ∷ bs) || has_close bs
+
+-- `/*` and all that follows to the end of the next `*/`
+abbrev pub IsBlockComment : List ℕ → Type 0
+IsBlockComment gap = (body : List ℕ) × (gap ≡ codes "/*" ++ (body ++ codes "*/")) × (has_close (body ++ codes "*") ≡ false)
+
+-- a blank or a comment, before what follows
+abbrev pub IsGap : List ℕ → List ℕ → Type 0
+IsGap gap rest = IsBlank gap ⊎ IsLineComment gap rest ⊎ IsBlockComment gap
+
+-- `//` or `/*` stands first
+abbrev pub begins_comment : List ℕ → Bool
+begins_comment [] = false
+begins_comment (b ∷ bs) = (b == 47) && (begins_with 47 bs || begins_with 42 bs)

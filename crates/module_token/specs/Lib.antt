@@ -1,0 +1,9 @@
+pub mod Cut
+pub mod Fault
+pub mod Front
+pub mod Gap
+pub mod Place
+pub mod Spelling
+pub mod Token
+pub mod Tokens
+pub mod Value
