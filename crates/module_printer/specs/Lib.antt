@@ -1,0 +1,3 @@
+pub mod ExpressionTokens
+pub mod SourceTokens
+pub mod Printed

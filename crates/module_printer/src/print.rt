@@ -1,0 +1,93 @@
+//! Printing a tree as a module text.
+
+ghost use Rattle.std.specs.Prelude.{◌≡◌, ◌∷◌, ◌++◌, [], codes, map, IfOk, OnOk};
+ghost use Rattle.module_printer.specs.ExpressionTokens.{in_parentheses};
+ghost use Rattle.module_printer.specs.SourceTokens.{comma_separated, tokens_of_outermost, tokens_of_body, tokens_of_host, tokens_of_module, tokens_of_top};
+ghost use Rattle.module_printer.specs.Printed.{spaced, line_of, printed};
+
+mod declarations;
+mod expressions;
+mod printer;
+mod statements;
+#[cfg(test)]
+mod tests;
+
+use crate::print::printer::{Printer, Tokens};
+use hh_base::memory::NoMemory;
+use hh_base::name::Name;
+use hh_term::source::{BodyNode, ExprAt, HostNode, ModuleNode, Modules, Top};
+use std::alloc::Global;
+
+impl Printer {
+    /// Begins a line with the word of a declaration, its name and its list.
+    fn heading<T: Tokens>(&mut self, word: &str, name: &Name, items: &[T]) -> Result<(), NoMemory>
+        ensures { OnOk result (self.new ≡ self.old ++ word.now ++ spaced (name.now ∷ in_parentheses (comma_separated (map T.tokens items.now)))) }
+    {
+        self.begin_line(word)?;
+        self.token(name.as_str())?;
+        self.parenthesized(items)
+    }
+
+    fn braced(&mut self, expr: &ExprAt<Name>) -> Result<(), NoMemory>
+        ensures { OnOk result (self.new ≡ self.old ++ spaced (codes "{" ∷ (tokens_of_outermost expr.now ++ codes "}" ∷ []))) }
+    {
+        self.token("{")?;
+        self.expression(&expr.expr)?;
+        self.token("}")
+    }
+
+    fn body(&mut self, body: &BodyNode<Name>) -> Result<(), NoMemory>
+        ensures { OnOk result (self.new ≡ self.old ++ line_of (tokens_of_body body.now)) }
+    {
+        self.heading("body", &body.name, body.params.as_slice())?;
+        self.typed(body.answer)?;
+        self.braced(&body.expr)?;
+        self.end_line()
+    }
+
+    fn host(&mut self, host: &HostNode) -> Result<(), NoMemory>
+        ensures { OnOk result (self.new ≡ self.old ++ line_of (tokens_of_host host.now)) }
+    {
+        self.heading("host", &host.name, host.params.as_slice())?;
+        self.typed(host.answer)?;
+        self.token(";")?;
+        self.end_line()
+    }
+
+    fn module(&mut self, node: &ModuleNode<Name>) -> Result<(), NoMemory>
+        ensures { OnOk result (self.new ≡ self.old ++ line_of (tokens_of_module node.now)) }
+    {
+        self.heading("module", &node.name, node.decls.as_slice())?;
+        self.block(&node.block)?;
+        self.end_line()
+    }
+
+    fn top(&mut self, top: &Top<Name>) -> Result<(), NoMemory>
+        ensures { OnOk result (self.new ≡ self.old ++ line_of (tokens_of_top top.now)) }
+    {
+        match top {
+            Top::Body(body) => self.body(body),
+            Top::Host(host) => self.host(host),
+            Top::Module(module) => self.module(module),
+        }
+    }
+
+    fn tops(&mut self, tops: &[Top<Name>]) -> Result<(), NoMemory>
+        ensures { OnOk result (self.new ≡ self.old ++ printed tops.now) }
+    {
+        for top in tops {
+            self.top(top)?;
+        }
+        Ok(())
+    }
+}
+
+/// The text of a tree: a line for each declaration, with one space between neighbouring tokens and only those
+/// parentheses that are needed.
+pub fn print(alloc: Global, modules: &Modules) -> Result<Vec<u8>, NoMemory>
+    ensures { IfOk result (λ v. v.items ≡ printed modules.now) }
+{
+    let mut printer = Printer::new(alloc);
+    printer.tops(modules.tops())?;
+    Ok(printer.into_bytes())
+}

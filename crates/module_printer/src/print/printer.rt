@@ -1,0 +1,149 @@
+//! Writing tokens.
+
+ghost use Rattle.std.specs.Prelude.{◌≡◌, ◌∷◌, ◌++◌, [], ℕ, List, codes, map, OnOk};
+ghost use Rattle.std.specs.Fmt.{decimal};
+ghost use Rattle.hh_base.specs.Literal.{quoted};
+ghost use Rattle.module_printer.specs.ExpressionTokens.{in_parentheses, tokens_of_integer};
+ghost use Rattle.module_printer.specs.SourceTokens.{behind, comma_separated, tokens_of_handler};
+ghost use Rattle.module_printer.specs.Printed.{spaced};
+
+use hh_base::literal::print_literal;
+use hh_base::memory::NoMemory;
+use hh_base::text::Text;
+use hh_base::value::Value;
+use std::alloc::Global;
+use std::marker::Model;
+
+/// Writes tokens, each behind a space. Contracts see the bytes that are written.
+#[derive(Drop)]
+pub struct Printer {
+    alloc: Global,
+    out: Vec<u8>,
+}
+
+impl Model for Printer {
+    ghost use Rattle.std.specs.Prelude.{List, ℕ};
+
+    ghost Value = { List ℕ };
+
+    ghost view = { λ p. p.out.items };
+}
+
+/// A part of a text that is written as tokens.
+pub trait Tokens {
+    ghost tokens: { Self → List (List ℕ) };
+
+    fn print(&self, printer: &mut Printer) -> Result<(), NoMemory>
+        ensures { OnOk result (printer.new ≡ printer.old ++ spaced (tokens self.now)) };
+}
+
+impl Printer {
+    pub fn new(alloc: Global) -> Printer
+        ensures { result ≡ [] }
+    {
+        Printer {
+            alloc,
+            out: Vec::new(alloc),
+        }
+    }
+
+    /// The bytes that are written. Takes no memory.
+    pub fn into_bytes(self) -> Vec<u8>
+        ensures { result.items ≡ self }
+    {
+        self.out
+    }
+
+    /// Writes the first token of a line.
+    pub fn begin_line(&mut self, text: &str) -> Result<(), NoMemory>
+        ensures { OnOk result (self.new ≡ self.old ++ text.now) }
+    {
+        self.out.extend_from_slice(text.as_bytes())?;
+        Ok(())
+    }
+
+    pub fn end_line(&mut self) -> Result<(), NoMemory>
+        ensures { OnOk result (self.new ≡ self.old ++ 10 ∷ []) }
+    {
+        self.out.push(b'\n')?;
+        Ok(())
+    }
+
+    pub fn token(&mut self, text: &str) -> Result<(), NoMemory>
+        ensures { OnOk result (self.new ≡ self.old ++ spaced (text.now ∷ [])) }
+    {
+        self.out.push(b' ')?;
+        self.out.extend_from_slice(text.as_bytes())?;
+        Ok(())
+    }
+
+    pub fn number(&mut self, number: u64) -> Result<(), NoMemory>
+        ensures { OnOk result (self.new ≡ self.old ++ spaced (decimal number ∷ [])) }
+    {
+        let digits = number.to_string(self.alloc)?;
+        self.token(digits.as_str())
+    }
+
+    /// Writes a number with its sign, which is a token of its own.
+    pub fn integer(&mut self, number: i64) -> Result<(), NoMemory>
+        ensures { OnOk result (self.new ≡ self.old ++ spaced (tokens_of_integer number)) }
+    {
+        if number < 0 {
+            self.token("-")?;
+        }
+        self.number(number.unsigned_abs())
+    }
+
+    pub fn text(&mut self, text: &Text) -> Result<(), NoMemory>
+        ensures { OnOk result (self.new ≡ self.old ++ spaced (quoted text.now ∷ [])) }
+    {
+        let value = Value::Text(text.copy(self.alloc)?);
+        self.out.push(b' ')?;
+        print_literal(self.alloc, &value, &mut self.out)
+    }
+
+    /// Writes a handler of an async statement, if there is one.
+    pub fn handler(&mut self, word: &str, text: &Option<Text>) -> Result<(), NoMemory>
+        ensures { OnOk result (self.new ≡ self.old ++ spaced (tokens_of_handler word.now text.now)) }
+    {
+        match text {
+            None => Ok(()),
+            Some(text) => {
+                self.token(word)?;
+                self.text(text)
+            }
+        }
+    }
+
+    fn behind_commas<T: Tokens>(&mut self, items: &[T]) -> Result<(), NoMemory>
+        ensures { OnOk result (self.new ≡ self.old ++ spaced (behind (codes ",") (map T.tokens items.now))) }
+    {
+        for item in items {
+            self.token(",")?;
+            item.print(self)?;
+        }
+        Ok(())
+    }
+
+    /// Writes the items with a comma between neighbours.
+    pub fn list<T: Tokens>(&mut self, items: &[T]) -> Result<(), NoMemory>
+        ensures { OnOk result (self.new ≡ self.old ++ spaced (comma_separated (map T.tokens items.now))) }
+    {
+        match items.split_first() {
+            None => Ok(()),
+            Some((first, others)) => {
+                first.print(self)?;
+                self.behind_commas(others)
+            }
+        }
+    }
+
+    /// Writes the items in parentheses, with a comma between neighbours.
+    pub fn parenthesized<T: Tokens>(&mut self, items: &[T]) -> Result<(), NoMemory>
+        ensures { OnOk result (self.new ≡ self.old ++ spaced (in_parentheses (comma_separated (map T.tokens items.now)))) }
+    {
+        self.token("(")?;
+        self.list(items)?;
+        self.token(")")
+    }
+}
