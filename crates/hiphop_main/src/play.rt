@@ -1,16 +1,21 @@
 //! `hiphop play`: a module and its scenario, played.
 
-ghost use Rattle.std.specs.Prelude.{◌≡◌, ◌≤◌, ◌⊎◌, ◌↔◌, ℕ, List, [], length, IsTrue};
+ghost use Rattle.std.specs.Prelude.{◌≡◌, ◌<◌, ◌≤◌, ◌^◌, ◌⊎◌, ◌↔◌, ℕ, List, [], length, map, IsTrue};
 ghost use Rattle.std.specs.Io.KnownBytes.{Appends};
+ghost use Rattle.std.specs.List.{AllByRecursion};
+ghost use Rattle.hh_term.specs.FirstLanguage.{IsFirstLanguage};
+ghost use Rattle.hh_term.specs.Viewed.{kernel_of};
+ghost use Rattle.scenario.specs.Scenario.{inputs_of_line};
 ghost use Rattle.hiphop_main.specs.declared.ending.Cause.{Cause as ACause};
-ghost use Rattle.hiphop_main.specs.declared.ending.Cause.TheVariants.{NoMemory as OutOfMemory};
-ghost use Rattle.hiphop_main.specs.Play.{IsPlay, IsInputDue, Ends, Played, PlaysLog, SaysUsage, IsUsageEnd, Accepts, CompletesUnlessCutOff, seen, input_limit};
+ghost use Rattle.hiphop_main.specs.declared.ending.Cause.TheVariants.{Fine, NoMemory as OutOfMemory};
+ghost use Rattle.hiphop_main.specs.Play.{AreGiven, IsPlay, IsInputDue, Ends, Played, PlaysLog, SaysUsage, IsUsageEnd, Accepts, CompletesUnlessCutOff, seen, input_limit};
+ghost use Rattle.hiphop_main.specs.Running.{lines_text};
 ghost use Rattle.hiphop_main.specs.Status.{status_of, refusal_line as due_line};
 
 use crate::ending::{Cause, ModuleKind, Outcome};
 use crate::refusal::refusal_line;
 use crate::run::play_lines;
-use crate::script::{ScriptFault, read_script};
+use crate::script::{Script, ScriptFault, read_script};
 use hh_base::value::Pos;
 use hh_base::words::Words;
 use hh_io::fault::{PutEnd, ReadEnd};
@@ -45,6 +50,21 @@ fn refuse<K: Sink>(alloc: Global, sink: &mut K, cause: Cause) -> Cause
     }
 }
 
+/// Plays a script, and writes its log.
+fn play_script<K: Sink>(alloc: Global, script: &Script, sink: &mut K) -> Cause
+    requires first { IsFirstLanguage (kernel_of script.now.program) }
+    requires few { length script.now.lines.items < 2 ^ 62 }
+    requires inputs { AllByRecursion (AreGiven (kernel_of script.now.program)) (map inputs_of_line script.now.lines.items) }
+    ensures { Ends Fine (lines_text (kernel_of script.now.program) (map inputs_of_line script.now.lines.items))
+        (K.written sink.old) (K.written sink.new) (K.faults sink.old) (K.faults sink.new) result }
+{
+    match play_lines(alloc, &script.program, &script.lines, sink) {
+        Ok(()) => Cause::Fine,
+        Err(PutEnd::Fault) => Cause::WriteFault,
+        Err(PutEnd::NoMemory) => Cause::NoMemory,
+    }
+}
+
 /// Plays an input that was read whole.
 fn play_input<K: Sink>(alloc: Global, input: &[u8], sink: &mut K) -> Cause
     requires { length input.now ≤ input_limit }
@@ -52,17 +72,12 @@ fn play_input<K: Sink>(alloc: Global, input: &[u8], sink: &mut K) -> Cause
         × Ends due text (K.written sink.old) (K.written sink.new) (K.faults sink.old) (K.faults sink.new) result)
         ⊎ ((result ≡ OutOfMemory) × Appends (K.written sink.old) (K.written sink.new) [] × (K.faults sink.new ≡ K.faults sink.old)) }
 {
-    let script = match read_script(alloc, input) {
-        Ok(script) => script,
+    match read_script(alloc, input) {
+        Ok(script) => play_script(alloc, &script, sink),
         Err(ScriptFault::NotBuilt) => {
-            return refuse(alloc, sink, Cause::Module(Pos(0), ModuleKind::NotBuilt, 0));
+            refuse(alloc, sink, Cause::Module(Pos(0), ModuleKind::NotBuilt, 0))
         }
-        Err(ScriptFault::NoMemory) => return Cause::NoMemory,
-    };
-    match play_lines(alloc, &script.program, &script.lines, sink) {
-        Ok(()) => Cause::Fine,
-        Err(PutEnd::Fault) => Cause::WriteFault,
-        Err(PutEnd::NoMemory) => Cause::NoMemory,
+        Err(ScriptFault::NoMemory) => Cause::NoMemory,
     }
 }
 
