@@ -3,5 +3,4 @@ pub mod Fault
 pub mod Parser
 pub mod Language
 pub mod Texts
-pub mod Cursors
 pub mod Refusals

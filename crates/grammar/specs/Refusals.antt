@@ -11,7 +11,6 @@ fault_of f.Unexpected = g.Unexpected
 fault_of f.EndOfText = g.EndOfText
 fault_of f.Deep = g.Deep
 fault_of f.Large = g.Large
-fault_of (f.OutOfRange least most) = g.OutOfRange least most
 
 abbrev pub refusal_of : Refused → Refusal
 refusal_of r = record { place = r.place; fault = fault_of r.fault }

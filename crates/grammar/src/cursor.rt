@@ -3,65 +3,57 @@ ghost use Rattle.std.specs.Prelude.{◌≡◌};
 ghost use Rattle.grammar.specs.Tokens.{is};
 ghost use Rattle.grammar.specs.Parser as parser;
 ghost use Rattle.grammar.specs.Parser.{Reads};
-ghost use Rattle.grammar.specs.Cursors.{lexemes};
 ghost use Rattle.grammar.specs.Refusals.{fault_of, refusal_of, seen};
 
 use crate::fault::{Fault, Refused};
 use crate::kinds::Kinds;
+use crate::tokens::Tokens;
 use std::marker::Model;
-
-/// A token of a text: the place in bytes where it begins, what is written there, and its value where it is a
-/// number.
-#[derive(Clone, Copy, Debug)]
-pub struct Lexeme<'a, K> {
-    pub place: u32,
-    pub kind: K,
-    pub text: &'a str,
-    pub value: u64,
-}
 
 /// A cursor over the tokens of a text. Contracts see what a reader reads from: the tokens that are left, how many
 /// leaves and operators of the outermost expression were taken, and the size of the text in bytes.
 #[derive(Drop)]
-pub struct Cursor<'a, K> {
-    rest: &'a [Lexeme<'a, K>],
+pub struct Cursor<T: Tokens> {
+    tokens: T,
     count: u32,
     size: u32,
 }
 
-impl<'a, K> Model for Cursor<'a, K> {
+impl<T: Tokens> Model for Cursor<T> {
     ghost use Rattle.grammar.specs.Parser.{Input};
 
-    ghost Value = { Input K };
+    ghost Value = { Input T.Kind };
 
-    ghost use Rattle.grammar.specs.Cursors.{input_of};
-
-    ghost view = { input_of };
+    ghost view = { λ c. record { rest = T.left c.tokens; count = c.count; size = c.size } };
 }
 
-impl<'a, K: Kinds> Cursor<'a, K> {
+impl<T: Tokens> Cursor<T> {
     /// A cursor at the beginning of a text of so many bytes.
-    pub fn new(tokens: &'a [Lexeme<'a, K>], size: u32) -> Cursor<'a, K>
-        ensures { result ≡ parser.start (lexemes tokens.now) size }
+    pub fn new(tokens: T, size: u32) -> Cursor<T>
+        ensures { result ≡ parser.start (T.left tokens) size }
     {
         Cursor {
-            rest: tokens,
+            tokens,
             count: 0,
             size,
         }
+    }
+
+    /// The tokens that are left.
+    pub fn tokens(&self) -> &T
+        ensures { T.left result.now ≡ self.now.rest }
+    {
+        &self.tokens
     }
 
     // ---- the next token
 
     /// Its kind, None at the end.
     #[tactic(auto, unfolding(crate::specs::Parser::kind))]
-    pub fn kind(&self) -> Option<K>
+    pub fn kind(&self) -> Option<T::Kind>
         ensures { result ≡ parser.kind self.now }
     {
-        match self.rest {
-            [] => None,
-            [token, ..] => Some(token.kind),
-        }
+        self.tokens.kind()
     }
 
     /// Its place, the size of the text at the end.
@@ -69,21 +61,7 @@ impl<'a, K: Kinds> Cursor<'a, K> {
     pub fn here(&self) -> u32
         ensures { result ≡ parser.here self.now }
     {
-        match self.rest {
-            [] => self.size,
-            [token, ..] => token.place,
-        }
-    }
-
-    /// What is written there, nothing at the end.
-    #[tactic(auto, unfolding(crate::specs::Parser::text))]
-    pub fn text(&self) -> &'a str
-        ensures { result.now ≡ parser.text self.now }
-    {
-        match self.rest {
-            [] => "",
-            [token, ..] => token.text,
-        }
+        self.tokens.place_or(self.size)
     }
 
     /// Its value, 0 at the end.
@@ -91,16 +69,13 @@ impl<'a, K: Kinds> Cursor<'a, K> {
     pub fn value(&self) -> u64
         ensures { result ≡ parser.value self.now }
     {
-        match self.rest {
-            [] => 0,
-            [token, ..] => token.value,
-        }
+        self.tokens.value()
     }
 
     /// Whether it is of this kind.
     #[tactic(auto, unfolding(crate::specs::Parser::sees))]
-    pub fn sees(&self, kind: K) -> bool
-        ensures { result ≡ parser.sees (is K.alphabet kind) self.now }
+    pub fn sees(&self, kind: T::Kind) -> bool
+        ensures { result ≡ parser.sees (is T.Kind.alphabet kind) self.now }
     {
         match self.kind() {
             None => false,
@@ -133,8 +108,8 @@ impl<'a, K: Kinds> Cursor<'a, K> {
 
     /// Why no bracket of this kind can be opened.
     #[tactic(auto, unfolding(crate::specs::Parser::too_deep, crate::specs::Parser::refusal))]
-    pub fn too_deep(&self, bracket: K) -> Refused
-        ensures { refusal_of result ≡ parser.too_deep K.alphabet bracket self.now }
+    pub fn too_deep(&self, bracket: T::Kind) -> Refused
+        ensures { refusal_of result ≡ parser.too_deep T.Kind.alphabet bracket self.now }
     {
         if self.sees(bracket) {
             self.fails(Fault::Deep)
@@ -150,9 +125,7 @@ impl<'a, K: Kinds> Cursor<'a, K> {
     pub fn skip(&mut self)
         ensures { self.new ≡ parser.next self.old }
     {
-        if let [_, rest @ ..] = self.rest {
-            self.rest = rest;
-        }
+        self.tokens.skip();
     }
 
     /// Counts leaves and operators from 0, before an outermost expression.
@@ -167,8 +140,8 @@ impl<'a, K: Kinds> Cursor<'a, K> {
     /// # Errors
     /// `Unexpected` at another token, `EndOfText` at the end.
     #[tactic(auto, unfolding(crate::specs::Parser::take))]
-    pub fn take(&mut self, kind: K) -> Result<u32, Refused>
-        ensures { Reads seen (parser.take K.alphabet kind self.old) result self.new }
+    pub fn take(&mut self, kind: T::Kind) -> Result<u32, Refused>
+        ensures { Reads seen (parser.take T.Kind.alphabet kind self.old) result self.new }
     {
         let place = self.here();
         if self.sees(kind) {
@@ -185,9 +158,9 @@ impl<'a, K: Kinds> Cursor<'a, K> {
     /// `Large` where no more may be counted.
     #[tactic(auto, unfolding(crate::specs::Parser::counted, crate::specs::Parser::skipped, crate::specs::Parser::fail, crate::specs::Parser::next))]
     pub fn count(&mut self) -> Result<(), Refused>
-        ensures { Reads seen (parser.counted K.alphabet parser.skipped self.old) result self.new }
+        ensures { Reads seen (parser.counted T.Kind.alphabet parser.skipped self.old) result self.new }
     {
-        if self.count >= K::most_counted() {
+        if self.count >= T::Kind::most_counted() {
             return Err(self.fails(Fault::Large));
         }
         self.count += 1;
@@ -200,8 +173,8 @@ impl<'a, K: Kinds> Cursor<'a, K> {
     /// # Errors
     /// `Unexpected` at another token, `EndOfText` at the end, `Large` where no more may be counted.
     #[tactic(auto, unfolding(crate::specs::Parser::mark, crate::specs::Parser::take, crate::specs::Parser::counted, crate::specs::Parser::skipped, crate::specs::Parser::fail, crate::specs::Parser::next))]
-    pub fn mark(&mut self, kind: K) -> Result<u32, Refused>
-        ensures { Reads seen (parser.mark K.alphabet kind self.old) result self.new }
+    pub fn mark(&mut self, kind: T::Kind) -> Result<u32, Refused>
+        ensures { Reads seen (parser.mark T.Kind.alphabet kind self.old) result self.new }
     {
         let place = self.here();
         if !self.sees(kind) {

@@ -1,8 +1,8 @@
 //! Why a text is not read.
 use thiserror::Error;
 
-/// What is wrong at a token. Two faults at one token are answered in the order `OutOfRange`, `Unexpected` and
-/// `EndOfText`, `Deep`, `Large`.
+/// What is wrong at a token that a step of the cursor does not take. Two faults at one token are answered in the order
+/// `Unexpected` and `EndOfText`, `Deep`, `Large`.
 #[derive(Clone, Copy, PartialEq, Eq, Debug, Error)]
 pub enum Fault {
     /// No text of the grammar goes on with this token.
@@ -17,9 +17,6 @@ pub enum Fault {
     /// One leaf or operator more than an outermost expression may have.
     #[error("too large an expression")]
     Large,
-    /// A number that is not between these two, each of which it may be.
-    #[error("not between {0} and {1}")]
-    OutOfRange(u64, u64),
 }
 
 /// A fault and its place: that of its token, or that of the end of the text.

@@ -7,3 +7,4 @@ pub mod fault;
 pub mod kinds;
 #[cfg(test)]
 mod tests;
+pub mod tokens;

@@ -1,9 +1,10 @@
 //! A cursor over tokens of two kinds: words, and a bracket that opens. Two words may be counted.
-ghost use Rattle.std.specs.Prelude.{◌≡◌, Bool, true, false, cond, refl, List, [], ◌∷◌};
+ghost use Rattle.std.specs.Prelude.{◌≡◌, Bool, true, false, cond, refl, List, [], ◌∷◌, map};
 
-use crate::cursor::{Cursor, Lexeme};
+use crate::cursor::Cursor;
 use crate::fault::{Fault, Refused};
 use crate::kinds::Kinds;
+use crate::tokens::Tokens;
 use std::test::Fail;
 
 const WORD: bool = false;
@@ -30,23 +31,59 @@ impl Kinds for bool {
     }
 }
 
-fn token(place: u32, kind: bool, text: &str, value: u64) -> Lexeme<'_, bool> {
-    Lexeme {
-        place,
-        kind,
-        text,
-        value,
+#[derive(Clone, Copy)]
+struct Lexeme {
+    place: u32,
+    kind: bool,
+    value: u64,
+}
+
+#[derive(Drop)]
+struct Lexemes<'a> {
+    rest: &'a [Lexeme],
+}
+
+impl<'a> Tokens for Lexemes<'a> {
+    type Kind = bool;
+
+    ghost left = { λ s. map (λ t. record { place = t.place; kind = t.kind; text = []; value = t.value }) s.rest.now };
+
+    fn kind(&self) -> Option<bool> {
+        match self.rest {
+            [] => None,
+            [token, ..] => Some(token.kind),
+        }
     }
+
+    fn place_or(&self, end: u32) -> u32 {
+        match self.rest {
+            [] => end,
+            [token, ..] => token.place,
+        }
+    }
+
+    fn value(&self) -> u64 {
+        match self.rest {
+            [] => 0,
+            [token, ..] => token.value,
+        }
+    }
+
+    fn skip(&mut self) {
+        if let [_, rest @ ..] = self.rest {
+            self.rest = rest;
+        }
+    }
+}
+
+fn token(place: u32, kind: bool, value: u64) -> Lexeme {
+    Lexeme { place, kind, value }
 }
 
 #[test]
 fn steps(rt: HostRuntime) -> Result<(), Fail> {
-    let tokens = [
-        token(3, WORD, "a", 0),
-        token(5, BRACKET, "(", 0),
-        token(6, WORD, "12", 12),
-    ];
-    let mut cursor = Cursor::new(&tokens, 9);
+    let tokens = [token(3, WORD, 0), token(5, BRACKET, 0), token(6, WORD, 12)];
+    let mut cursor = Cursor::new(Lexemes { rest: &tokens }, 9);
     assert_eq!(rt; cursor.kind(), Some(WORD));
     assert_eq!(rt; cursor.take(BRACKET), Err(refused(3, Fault::Unexpected)));
     assert_eq!(rt; cursor.take(WORD), Ok(3));
@@ -54,12 +91,12 @@ fn steps(rt: HostRuntime) -> Result<(), Fail> {
     assert_eq!(rt; cursor.finish(), Err(refused(5, Fault::Unexpected)));
     assert_eq!(rt; cursor.take(BRACKET), Ok(5));
     assert!(rt; cursor.sees(WORD));
-    assert_eq!(rt; cursor.text(), "12");
     assert_eq!(rt; cursor.value(), 12);
+    assert_eq!(rt; cursor.tokens().place_or(9), 6);
     assert_eq!(rt; cursor.too_deep(BRACKET), refused(6, Fault::Unexpected));
     cursor.skip();
     assert_eq!(rt; cursor.here(), 9);
-    assert_eq!(rt; cursor.text(), "");
+    assert_eq!(rt; cursor.value(), 0);
     assert_eq!(rt; cursor.mark(WORD), Err(refused(9, Fault::EndOfText)));
     assert_eq!(rt; cursor.finish(), Ok(()));
     Ok(())
@@ -68,12 +105,12 @@ fn steps(rt: HostRuntime) -> Result<(), Fail> {
 #[test]
 fn counts(rt: HostRuntime) -> Result<(), Fail> {
     let tokens = [
-        token(0, WORD, "a", 0),
-        token(2, WORD, "b", 0),
-        token(4, WORD, "c", 0),
-        token(6, WORD, "d", 0),
+        token(0, WORD, 0),
+        token(2, WORD, 0),
+        token(4, WORD, 0),
+        token(6, WORD, 0),
     ];
-    let mut cursor = Cursor::new(&tokens, 7);
+    let mut cursor = Cursor::new(Lexemes { rest: &tokens }, 7);
     assert_eq!(rt; cursor.mark(WORD), Ok(0));
     assert_eq!(rt; cursor.count(), Ok(()));
     assert_eq!(rt; cursor.count(), Err(refused(4, Fault::Large)));
@@ -85,8 +122,8 @@ fn counts(rt: HostRuntime) -> Result<(), Fail> {
 
 #[test]
 fn printed(rt: HostRuntime) -> Result<(), Fail> {
-    let printed = format!(in rt.alloc(); "{}", refused(4, Fault::OutOfRange(1, 64)))?;
-    assert_eq!(rt; printed.as_str(), "not between 1 and 64");
+    let printed = format!(in rt.alloc(); "{}", refused(4, Fault::Large))?;
+    assert_eq!(rt; printed.as_str(), "too large an expression");
     Ok(())
 }
 
