@@ -52,8 +52,8 @@ fn long_mark(first: u8, second: u8) -> Option<Punct>
     }
 }
 
-#[tactic(auto, using(crate::proofs::Lines::line_found, crate::proofs::Lines::line_none))]
 /// How many bytes stand before the first LF, or before the end.
+#[tactic(auto, using(crate::proofs::Lines::line_found, crate::proofs::Lines::line_none))]
 fn line_len(text: &str) -> usize
     ensures len { result ≡ position_or_len (λ c. c == 10) text.now }
     ensures cut { IsCharBoundary text.now result }
@@ -64,8 +64,8 @@ fn line_len(text: &str) -> usize
     }
 }
 
-#[tactic(auto, using(crate::proofs::Lines::close_found, crate::proofs::Lines::close_none))]
 /// How many bytes stand up to the end of the first `*/`.
+#[tactic(auto, using(crate::proofs::Lines::close_found, crate::proofs::Lines::close_none))]
 fn close_of(body: &str) -> Option<usize>
     ensures len { result ≡ close_of body.now }
     ensures cut { IfSome result (λ n. IsCharBoundary body.now n) }
@@ -76,8 +76,8 @@ fn close_of(body: &str) -> Option<usize>
     }
 }
 
-#[tactic(auto, using(crate::proofs::Cuts::after_two))]
 /// The comment with an end at the front of the text.
+#[tactic(auto, using(crate::proofs::Cuts::after_two))]
 fn comment(text: &str) -> Front
     requires both { 1 < length text.now }
     requires second { slice_index text.now 1 ≡ 42 }
@@ -105,8 +105,8 @@ fn single(first: u8, text: &str) -> Front
     }
 }
 
-#[tactic(auto, using(crate::proofs::Cuts::long_cut))]
 /// What two characters begin at the front of the text.
+#[tactic(auto, using(crate::proofs::Cuts::long_cut))]
 fn pair(first: u8, second: u8, text: &str) -> Front
     requires first { slice_index text.now 0 ≡ first }
     requires second { slice_index text.now 1 ≡ second }

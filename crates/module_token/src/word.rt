@@ -37,8 +37,8 @@ fn word_found(word: &str) -> TokenKind
     }
 }
 
-#[tactic(auto, using(crate::proofs::Cuts::word_cut_some))]
 /// The word at the front of the text.
+#[tactic(auto, using(crate::proofs::Cuts::word_cut_some))]
 pub fn word(text: &str) -> Front
     requires { (c : ℕ) × (cs : List ℕ) × (chars text.now ≡ c ∷ cs) × (starts_word c ≡ true) }
     ensures value { result ≡ word_front text.now }
