@@ -1,0 +1,5 @@
+pub mod Keeping
+pub mod Layers
+pub mod Nodes
+pub mod Expressions
+pub mod Brackets

@@ -1,0 +1,243 @@
+-- The grammar of tokens, lists and expressions: each rule stands over what it says. The number `room` says how many brackets may still be opened. This project's
+-- own, after HipHop.js.
+use Rattle.std.specs.Prelude.{ℕ, zero, suc, ◌^◌, ◌-◌, pos, Bool, true, false, List, [], ◌∷◌, Option, Some, None}
+use Rattle.module_token.specs.declared.keyword.Keyword.{Keyword}
+use Rattle.module_token.specs.declared.keyword.Keyword.TheVariants as word
+use Rattle.module_token.specs.declared.punct.Punct.{Punct}
+use Rattle.module_token.specs.declared.punct.Punct.TheVariants as mark
+use Rattle.host_expr.specs.declared.expr.Expr.{Expr}
+use Rattle.host_expr.specs.declared.expr.ExprNode.TheVariants as leaf
+use Rattle.host_expr.specs.declared.expr.Op.TheVariants as op
+use Rattle.host_expr.specs.declared.expr.Rel.TheVariants as rel
+use Rattle.hh_term.specs.declared.source.NameAt.{NameAt}
+use Rattle.hh_term.specs.declared.source.ExprAt.{ExprAt}
+use Rattle.grammar.specs.Language as language
+use Rattle.grammar.specs.Language.{◌>>=◌, ◌>>◌, pure, ◌or◌, many, nothing}
+use Rattle.expression_reader.specs.declared.terminal.Terminal.{Terminal}
+use Rattle.expression_reader.specs.declared.terminal.Terminal.TheVariants as terminal
+use Rattle.expression_reader.specs.declared.operator.Level.{Level}
+use Rattle.expression_reader.specs.declared.operator.Level.TheVariants as level
+use Rattle.expression_reader.specs.declared.operator.Operator.{Operator}
+use Rattle.expression_reader.specs.declared.operator.Operator.TheVariants as sign
+use Rattle.expression_reader.specs.declared.operator.Access.{Access}
+use Rattle.expression_reader.specs.declared.operator.Access.TheVariants as reading
+use Rattle.expression_reader.specs.Terminals.{is_name}
+use Rattle.expression_reader.specs.Trees.{Name, TextAt, name_at, node, expr_at, accessed, Term, Branches, chained, compared, chosen}
+
+abbrev pub Lang : Type 0 → Type 1
+Lang A = language.Lang Terminal A
+
+-- ---- tokens
+
+abbrev pub keyword : Keyword → Lang ℕ
+keyword which = language.token (terminal.Keyword which)
+
+abbrev pub punct : Punct → Lang ℕ
+punct which = language.token (terminal.Punct which)
+
+abbrev pub name : Lang TextAt
+name = language.name is_name
+
+abbrev pub is_quoted : Terminal → Bool
+is_quoted terminal.Quoted = true
+is_quoted _ = false
+
+abbrev pub is_number : Terminal → Bool
+is_number terminal.Number = true
+is_number _ = false
+
+abbrev pub quoted : Lang TextAt
+quoted = language.name is_quoted
+
+-- a name, as where it stands
+abbrev pub named : Lang (NameAt Name)
+named = do
+  written ← name
+  pure (name_at written)
+
+-- a number within these bounds
+abbrev pub number : ℕ → ℕ → Lang (ℕ × ℕ)
+number least most = language.ranged is_number least most (λ place text value. (place, value))
+
+-- ---- parts
+
+abbrev pub some : {A : Type 0} → Lang A → Lang (Option A)
+some part = do
+  found ← part
+  pure (Some found)
+
+-- [ part ]
+abbrev pub optional : {A : Type 0} → Lang A → Lang (Option A)
+optional part = some part or pure None
+
+abbrev pub behind_comma : {A : Type 0} → Lang A → Lang A
+behind_comma item = do
+  punct mark.Comma
+  item
+
+-- item { "," item }
+abbrev pub listed : {A : Type 0} → Lang A → Lang (List A)
+listed item = do
+  first ← item
+  others ← many (behind_comma item)
+  pure (first ∷ others)
+
+-- [ item { "," item } ]
+abbrev pub listed_or_none : {A : Type 0} → Lang A → Lang (List A)
+listed_or_none item = listed item or pure []
+
+-- "(" part ")"
+abbrev pub in_round : {A : Type 0} → (ℕ → Lang A) → ℕ → Lang A
+in_round part room = language.opened room (terminal.Punct mark.LeftParen) (λ left place. do found ← part left; punct mark.RightParen; pure found)
+
+-- "{" part "}"
+abbrev pub in_curly : {A : Type 0} → (ℕ → Lang A) → ℕ → Lang A
+in_curly part room = language.opened room (terminal.Punct mark.LeftBrace) (λ left place. do found ← part left; punct mark.RightBrace; pure found)
+
+-- ---- expressions, by what stands in round brackets
+
+abbrev pub largest : ℕ
+largest = 2 ^ 63 - 1
+
+abbrev pub integer : Lang (Expr Name)
+integer = do
+  written ← language.counted (number 0 largest)
+  pure (node written.0 (leaf.Int (pos written.1)))
+
+abbrev pub truth : Keyword → Bool → Lang (Expr Name)
+truth which value = do
+  place ← language.mark (terminal.Keyword which)
+  pure (node place (leaf.Bool value))
+
+abbrev pub text : Lang (Expr Name)
+text = do
+  written ← language.counted quoted
+  pure (node written.0 (leaf.Text written.1))
+
+abbrev pub access_by : Terminal → Access → Lang Access
+access_by which what = do
+  language.token which
+  pure what
+
+-- "now" | "pre" | "nowval" | "preval"
+abbrev pub access : Lang Access
+access = access_by terminal.Now reading.Now or access_by terminal.Pre reading.Pre or access_by terminal.NowVal reading.NowVal or access_by terminal.PreVal reading.PreVal
+
+abbrev pub behind_dot : Lang Access
+behind_dot = do
+  punct mark.Dot
+  access
+
+-- name [ "." word ], which is one leaf
+abbrev pub signal : Lang (Expr Name)
+signal = do
+  read ← language.counted name
+  what ← behind_dot or pure reading.Parameter
+  pure (node read.0 (accessed what read.1))
+
+-- atom = number | "true" | "false" | quoted | name [ "." word ] | "(" expr ")"
+abbrev pub atom : Lang (Expr Name) → Lang (Expr Name)
+atom inside = integer or truth word.True true or truth word.False false or text or signal or inside
+
+abbrev pub negated : Lang (Expr Name) → Lang (Expr Name)
+negated inside = do
+  place ← language.mark (terminal.Punct mark.Not)
+  operand ← atom inside
+  pure (node place (leaf.Not operand))
+
+abbrev pub negative : Lang (Expr Name) → Lang (Expr Name)
+negative inside = do
+  place ← language.mark (terminal.Punct mark.Minus)
+  operand ← atom inside
+  pure (node place (leaf.Neg operand))
+
+-- unary = [ "!" | "-" ] atom
+abbrev pub unary : Lang (Expr Name) → Lang (Expr Name)
+unary inside = negated inside or negative inside or atom inside
+
+abbrev pub binary : Punct → Operator → Lang (ℕ × Operator)
+binary which operator = do
+  place ← language.mark (terminal.Punct which)
+  pure (place, operator)
+
+abbrev pub operator : Level → Lang (ℕ × Operator)
+operator level.Or = binary mark.Or sign.Or
+operator level.And = binary mark.And sign.And
+operator level.Sum = binary mark.Plus (sign.Arith op.Add) or binary mark.Minus (sign.Arith op.Sub)
+operator level.Product = binary mark.Star (sign.Arith op.Mul) or binary mark.Slash (sign.Arith op.Div) or binary mark.Percent (sign.Arith op.Rem)
+
+abbrev pub relation : Lang (ℕ × Operator)
+relation =
+    binary mark.EqualEqual (sign.Compare rel.Eq) or binary mark.NotEqual (sign.Compare rel.Ne)
+    or binary mark.Less (sign.Compare rel.Lt) or binary mark.LessEqual (sign.Compare rel.Le)
+    or binary mark.Greater (sign.Compare rel.Gt) or binary mark.GreaterEqual (sign.Compare rel.Ge)
+
+-- an operator, and the operand behind it
+abbrev pub term : Lang (ℕ × Operator) → Lang (Expr Name) → Lang Term
+term operator operand = do
+  joining ← operator
+  right ← operand
+  pure (joining, right)
+
+-- operand { operator operand }
+abbrev pub chain : Lang (ℕ × Operator) → Lang (Expr Name) → Lang (Expr Name)
+chain operator operand = do
+  first ← operand
+  terms ← many (term operator operand)
+  pure (chained first terms)
+
+-- prod = unary { ( "*" | "/" | "%" ) unary }
+abbrev pub product : Lang (Expr Name) → Lang (Expr Name)
+product inside = chain (operator level.Product) (unary inside)
+
+-- sum = prod { ( "+" | "-" ) prod }
+abbrev pub sum : Lang (Expr Name) → Lang (Expr Name)
+sum inside = chain (operator level.Sum) (product inside)
+
+-- cmp = sum [ ( "==" | "!=" | "<" | "<=" | ">" | ">=" ) sum ]
+abbrev pub comparison : Lang (Expr Name) → Lang (Expr Name)
+comparison inside = do
+  left ← sum inside
+  right ← optional (term relation (sum inside))
+  pure (compared left right)
+
+-- and = cmp { "&&" cmp }
+abbrev pub conjunction : Lang (Expr Name) → Lang (Expr Name)
+conjunction inside = chain (operator level.And) (comparison inside)
+
+-- or = and { "||" and }
+abbrev pub disjunction : Lang (Expr Name) → Lang (Expr Name)
+disjunction inside = chain (operator level.Or) (conjunction inside)
+
+abbrev pub branches : Lang (Expr Name) → Lang Branches
+branches inside = do
+  place ← language.mark (terminal.Punct mark.Question)
+  first ← disjunction inside
+  punct mark.Colon
+  second ← disjunction inside
+  pure (place, first, second)
+
+-- expr = or [ "?" or ":" or ]
+abbrev pub expr : Lang (Expr Name) → Lang (Expr Name)
+expr inside = do
+  test ← disjunction inside
+  choice ← optional (branches inside)
+  pure (chosen test choice)
+
+abbrev pub inside : ℕ → Lang (Expr Name)
+inside zero = nothing
+inside (suc room) = in_round (λ left. expr (inside room)) (suc room)
+
+-- an outermost expression, and the place of its first token
+abbrev pub outermost : ℕ → Lang (ExprAt Name)
+outermost room = do
+  found ← language.outer (language.placed (expr (inside room)))
+  pure (expr_at found)
+
+-- "(" expr ")"
+abbrev pub tested : ℕ → Lang (ExprAt Name)
+tested room = in_round outermost room
+
+-- [ expr { "," expr } ]
+abbrev pub arguments : ℕ → Lang (List (ExprAt Name))
+arguments left = listed_or_none (outermost left)

@@ -1,0 +1,347 @@
+//! The tokens that are still to be read, and the steps that take one.
+ghost use Rattle.std.specs.Prelude.{◌≡◌, ◌≤◌, Some, true, [], All, IfOk};
+ghost use Rattle.grammar.specs.Fault.{Fault, Unexpected, OutOfRange};
+ghost use Rattle.grammar.specs.Parser as parser;
+ghost use Rattle.grammar.specs.Parser.{Reads};
+ghost use Rattle.grammar.specs.Tokens.{is, in_range};
+ghost use Rattle.expression_reader.specs.Cursor.{IsReadable, toks};
+ghost use Rattle.expression_reader.specs.Reference as rule;
+ghost use Rattle.expression_reader.specs.Refusals.{seen};
+ghost use Rattle.expression_reader.specs.Rules.{is_number, is_quoted, largest};
+ghost use Rattle.expression_reader.specs.Terminals.{symbols, is_name, is_keyword, is_punct, is_in_round, is_in_curly};
+
+use crate::fault::Refused;
+use crate::terminal::Terminal;
+use crate::words::Words;
+use grammar::cursor::Cursor;
+use hh_base::name::Name;
+use hh_base::text::Text;
+use hh_base::value::Pos;
+use hh_term::source::NameAt;
+use module_token::keyword::Keyword;
+use module_token::punct::Punct;
+use module_token::token::Token;
+use sqlite_items::Items;
+use std::alloc::Global;
+use std::marker::Model;
+
+/// The largest number that an expression has.
+const LARGEST: u64 = i64::MAX as u64;
+
+/// The most times that a delay waits.
+const MOST_TIMES: u64 = 64;
+
+/// A reader of the tokens of a text.
+#[derive(Drop)]
+pub struct Reader<'a> {
+    pub(crate) alloc: Global,
+    cursor: Cursor<Words<'a>>,
+}
+
+impl<'a> Model for Reader<'a> {
+    ghost use Rattle.grammar.specs.Parser.{Input};
+    ghost use Rattle.expression_reader.specs.declared.terminal.Terminal.{Terminal as ATerminal};
+
+    ghost Value = { Input ATerminal };
+
+    ghost view = { λ r. r.cursor };
+}
+
+impl<'a> Reader<'a> {
+    /// A reader at the beginning of a text of so many bytes.
+    pub fn new(alloc: Global, text: &'a str, tokens: &'a [Token], size: u32) -> Reader<'a>
+        requires { All (IsReadable text.now) tokens.now }
+        ensures { result ≡ parser.start (toks text.now tokens.now) size }
+    {
+        Reader {
+            alloc,
+            cursor: Cursor::new(Words::new(text, tokens), size),
+        }
+    }
+
+    // ---- the next token
+
+    /// Its terminal, None at the end.
+    pub fn kind(&self) -> Option<Terminal>
+        ensures { result ≡ parser.kind self.now }
+    {
+        self.cursor.kind()
+    }
+
+    /// Its place, that of the end where there is none.
+    pub(crate) fn here(&self) -> u32
+        ensures { result ≡ parser.here self.now }
+    {
+        self.cursor.here()
+    }
+
+    /// Whether the next token is this one.
+    pub fn sees(&self, terminal: Terminal) -> bool
+        ensures { result ≡ parser.sees (is symbols terminal) self.now }
+    {
+        self.cursor.sees(terminal)
+    }
+
+    /// Whether the next token is this keyword.
+    pub fn sees_keyword(&self, keyword: Keyword) -> bool
+        ensures { result ≡ parser.sees (is_keyword keyword) self.now }
+    {
+        self.sees(Terminal::Keyword(keyword))
+    }
+
+    /// Whether the next token is this mark.
+    pub fn sees_punct(&self, punct: Punct) -> bool
+        ensures { result ≡ parser.sees (is_punct punct) self.now }
+    {
+        self.sees(Terminal::Punct(punct))
+    }
+
+    /// Whether the next token may stand in a list that is not closed yet.
+    #[tactic(auto, unfolding(grammar::specs::Parser::sees))]
+    pub fn sees_in_round(&self) -> bool
+        ensures { result ≡ parser.sees is_in_round self.now }
+    {
+        match self.kind() {
+            None => false,
+            Some(next) => !next.is(Terminal::Punct(Punct::RightParen)),
+        }
+    }
+
+    /// Whether the next token may stand in a block that is not closed yet.
+    #[tactic(auto, unfolding(grammar::specs::Parser::sees))]
+    pub fn sees_in_curly(&self) -> bool
+        ensures { result ≡ parser.sees is_in_curly self.now }
+    {
+        match self.kind() {
+            None => false,
+            Some(next) => !next.is(Terminal::Punct(Punct::RightBrace)),
+        }
+    }
+
+    // ---- refusals
+
+    /// The refusal of the next token, or of the end.
+    pub(crate) fn refuse(&self) -> Refused
+        ensures { seen result ≡ Some (parser.refusal self.now) }
+    {
+        Refused::from(self.cursor.refusal())
+    }
+
+    /// Why this bracket cannot be opened where no bracket can.
+    pub fn too_deep(&self, bracket: Punct) -> Refused
+        ensures { seen result ≡ Some (parser.too_deep symbols (Terminal.Punct bracket) self.now) }
+    {
+        Refused::from(self.cursor.too_deep(Terminal::Punct(bracket)))
+    }
+
+    // ---- one token
+
+    /// Takes this token, and gives its place.
+    pub fn take(&mut self, terminal: Terminal) -> Result<u32, Refused>
+        ensures { Reads seen (parser.take symbols terminal self.old) result self.new }
+    {
+        Ok(self.cursor.take(terminal)?)
+    }
+
+    /// Takes this keyword, and gives its place.
+    pub fn keyword(&mut self, keyword: Keyword) -> Result<u32, Refused>
+        ensures { Reads seen (rule.keyword keyword self.old) result self.new }
+    {
+        self.take(Terminal::Keyword(keyword))
+    }
+
+    /// Takes this mark, and gives its place.
+    pub fn punct(&mut self, punct: Punct) -> Result<u32, Refused>
+        ensures { Reads seen (rule.punct punct self.old) result self.new }
+    {
+        self.take(Terminal::Punct(punct))
+    }
+
+    #[tactic(auto, unfolding(grammar::specs::Parser::sees))]
+    pub(crate) fn sees_name(&self) -> bool
+        ensures { result ≡ parser.sees is_name self.now }
+    {
+        match self.kind() {
+            None => false,
+            Some(next) => next.is_name(),
+        }
+    }
+
+    #[tactic(auto, unfolding(grammar::specs::Parser::sees))]
+    pub(crate) fn sees_quoted(&self) -> bool
+        ensures { result ≡ parser.sees is_quoted self.now }
+    {
+        match self.kind() {
+            Some(Terminal::Quoted) => true,
+            _ => false,
+        }
+    }
+
+    #[tactic(auto, unfolding(grammar::specs::Parser::sees))]
+    pub(crate) fn sees_number(&self) -> bool
+        ensures { result ≡ parser.sees is_number self.now }
+    {
+        match self.kind() {
+            Some(Terminal::Number) => true,
+            _ => false,
+        }
+    }
+
+    /// A name that is the next token, and its place. It is still to be taken.
+    #[tactic(auto, unfolding(grammar::specs::Parser::name, grammar::specs::Parser::sees, grammar::specs::Parser::kind, grammar::specs::Parser::text))]
+    fn next_name(&self) -> Result<(u32, Name), Refused>
+        ensures { Reads seen (rule.name self.now) result (parser.next self.now) }
+    {
+        if !self.sees_name() {
+            return Err(self.refuse());
+        }
+        let name = self.cursor.tokens().name(self.alloc)?;
+        Ok((self.here(), name))
+    }
+
+    /// A quoted text that is the next token, and its place. It is still to be taken.
+    #[tactic(auto, unfolding(grammar::specs::Parser::name, grammar::specs::Parser::sees, grammar::specs::Parser::kind, grammar::specs::Parser::text))]
+    fn next_quoted(&self) -> Result<(u32, Text), Refused>
+        ensures { Reads seen (rule.quoted self.now) result (parser.next self.now) }
+    {
+        if !self.sees_quoted() {
+            return Err(self.refuse());
+        }
+        let text = self.cursor.tokens().quoted(self.alloc)?;
+        Ok((self.here(), text))
+    }
+
+    /// A number that is the next token, between these two, and its place. It is still to be taken. Any other number
+    /// is refused by `otherwise`, a fault at the next token.
+    #[tactic(auto, unfolding(grammar::specs::Parser::ranged, grammar::specs::Parser::fail))]
+    fn next_number(&self, least: u64, most: u64, otherwise: Refused) -> Result<(u32, u64), Refused>
+        ensures reads { (fault : Fault) → seen otherwise ≡ Some (record { place = parser.here self.now; fault = fault })
+            → Reads seen (rule.number least most fault self.now) result (parser.next self.now) }
+        ensures within { IfOk result (λ n. in_range least most n.1 ≡ true) }
+    {
+        if !self.sees_number() {
+            return Err(self.refuse());
+        }
+        let value = self.cursor.value();
+        if value < least || value > most {
+            return Err(otherwise);
+        }
+        Ok((self.here(), value))
+    }
+
+    /// Takes a name, and gives its place too.
+    pub fn name(&mut self) -> Result<(u32, Name), Refused>
+        ensures { Reads seen (rule.name self.old) result self.new }
+    {
+        let name = self.next_name()?;
+        self.cursor.skip();
+        Ok(name)
+    }
+
+    /// A name, as where it stands.
+    pub fn name_at(&mut self) -> Result<NameAt<Name>, Refused>
+        ensures { Reads seen (rule.named self.old) result self.new }
+    {
+        let (pos, name) = self.name()?;
+        Ok(NameAt {
+            pos: Pos(pos),
+            name,
+        })
+    }
+
+    /// Takes a quoted text, and gives its place too.
+    pub fn quoted(&mut self) -> Result<(u32, Text), Refused>
+        ensures { Reads seen (rule.quoted self.old) result self.new }
+    {
+        let text = self.next_quoted()?;
+        self.cursor.skip();
+        Ok(text)
+    }
+
+    /// Takes a number of at most this value, and gives its place too. Any other may not stand here.
+    pub fn number_up_to(&mut self, most: u64) -> Result<(u32, u64), Refused>
+        ensures reads { Reads seen (rule.number 0 most Unexpected self.old) result self.new }
+        ensures small { IfOk result (λ n. n.1 ≤ most) }
+    {
+        let not_here = Refused::Unexpected(self.here());
+        let number = self.next_number(0, most, not_here)?;
+        self.cursor.skip();
+        Ok(number)
+    }
+
+    /// Takes how often something is waited for, and gives its place too.
+    pub fn times(&mut self) -> Result<(u32, u8), Refused>
+        ensures { Reads seen (rule.number 1 64 (OutOfRange 1 64) self.old) result self.new }
+    {
+        let out_of_range = Refused::BadCount(self.here());
+        let (pos, times) = self.next_number(1, MOST_TIMES, out_of_range)?;
+        self.cursor.skip();
+        Ok((pos, times as u8))
+    }
+
+    // ---- leaves and operators
+
+    /// An outermost expression counts its leaves and operators from 0.
+    pub(crate) fn begin_outermost(&mut self)
+        ensures { self.new ≡ record self.old { count = 0 } }
+    {
+        self.cursor.restart();
+    }
+
+    /// Takes this token, which is a leaf or an operator, and gives its place.
+    pub(crate) fn mark(&mut self, terminal: Terminal) -> Result<u32, Refused>
+        ensures { Reads seen (parser.mark symbols terminal self.old) result self.new }
+    {
+        Ok(self.cursor.mark(terminal)?)
+    }
+
+    /// Takes a name that begins a leaf, and gives its place too.
+    #[tactic(auto, unfolding(grammar::specs::Parser::counted, grammar::specs::Parser::skipped, grammar::specs::Parser::fail))]
+    pub(crate) fn mark_name(&mut self) -> Result<(u32, Name), Refused>
+        ensures { Reads seen (parser.counted symbols rule.name self.old) result self.new }
+    {
+        let name = self.next_name()?;
+        self.cursor.count()?;
+        Ok(name)
+    }
+
+    /// Takes a quoted text that is a leaf, and gives its place too.
+    #[tactic(auto, unfolding(grammar::specs::Parser::counted, grammar::specs::Parser::skipped, grammar::specs::Parser::fail))]
+    pub(crate) fn mark_quoted(&mut self) -> Result<(u32, Text), Refused>
+        ensures { Reads seen (parser.counted symbols rule.quoted self.old) result self.new }
+    {
+        let text = self.next_quoted()?;
+        self.cursor.count()?;
+        Ok(text)
+    }
+
+    /// Takes a number that is a leaf, and gives its place too.
+    #[tactic(auto, unfolding(grammar::specs::Parser::counted, grammar::specs::Parser::skipped, grammar::specs::Parser::fail))]
+    pub(crate) fn mark_integer(&mut self) -> Result<(u32, u64), Refused>
+        ensures reads { Reads seen (parser.counted symbols (rule.number 0 largest (OutOfRange 0 largest)) self.old) result self.new }
+        ensures small { IfOk result (λ n. n.1 ≤ largest) }
+    {
+        let too_large = Refused::NumberLarge(self.here());
+        let number = self.next_number(0, LARGEST, too_large)?;
+        self.cursor.count()?;
+        Ok(number)
+    }
+
+    // ---- what is made of tokens
+
+    /// A list to which what is read is added.
+    pub fn empty_list<T: Drop>(&self) -> Items<T>
+        ensures { result ≡ [] }
+    {
+        Items::new(self.alloc)
+    }
+
+    // ---- the end
+
+    /// Whether no token is left: the next one is refused.
+    pub fn finish(&self) -> Result<(), Refused>
+        ensures { Reads seen (parser.finish self.now) result self.now }
+    {
+        Ok(self.cursor.finish()?)
+    }
+}

@@ -1,0 +1,437 @@
+//! Expressions.
+ghost use Rattle.std.specs.Prelude.{◌≡◌};
+ghost use Rattle.grammar.specs.Parser as parser;
+ghost use Rattle.grammar.specs.Parser.{Reads};
+ghost use Rattle.expression_reader.specs.Refusals.{seen};
+ghost use Rattle.expression_reader.specs.Reference as rule;
+
+use crate::cursor::Reader;
+use crate::fault::Refused;
+use crate::operator::{Access, Level, Operator, choose, join, node};
+use crate::terminal::Terminal;
+use hh_base::name::Name;
+use hh_base::value::Pos;
+use hh_term::source::ExprAt;
+use host_expr::expr::{Expr, ExprNode, Op, Rel};
+use module_token::keyword::Keyword;
+use module_token::punct::Punct;
+use sqlite_items::{Boxed, Items};
+
+impl<'a> Reader<'a> {
+    // ---- leaves
+
+    #[tactic(auto, unfolding(crate::specs::Reference::integer))]
+    fn integer_leaf(&mut self) -> Result<Expr<Name>, Refused>
+        ensures { Reads seen (rule.integer self.old) result self.new }
+    {
+        let (pos, value) = self.mark_integer()?;
+        Ok(node(pos, ExprNode::Int(value as i64)))
+    }
+
+    #[tactic(auto, unfolding(crate::specs::Reference::truth))]
+    fn truth(&mut self, word: Keyword, value: bool) -> Result<Expr<Name>, Refused>
+        ensures { Reads seen (rule.truth word value self.old) result self.new }
+    {
+        let pos = self.mark(Terminal::Keyword(word))?;
+        Ok(node(pos, ExprNode::Bool(value)))
+    }
+
+    #[tactic(auto, unfolding(crate::specs::Reference::text))]
+    fn text_leaf(&mut self) -> Result<Expr<Name>, Refused>
+        ensures { Reads seen (rule.text self.old) result self.new }
+    {
+        let (pos, text) = self.mark_quoted()?;
+        Ok(node(pos, ExprNode::Text(text)))
+    }
+
+    fn access_by(&mut self, word: Terminal, access: Access) -> Result<Access, Refused>
+        ensures { Reads seen (rule.access_by word access self.old) result self.new }
+    {
+        self.take(word)?;
+        Ok(access)
+    }
+
+    #[tactic(auto, unfolding(crate::specs::Reference::access))]
+    fn access(&mut self) -> Result<Access, Refused>
+        ensures { Reads seen (rule.access self.old) result self.new }
+    {
+        if self.sees(Terminal::Now) {
+            return self.access_by(Terminal::Now, Access::Now);
+        }
+        if self.sees(Terminal::Pre) {
+            return self.access_by(Terminal::Pre, Access::Pre);
+        }
+        if self.sees(Terminal::NowVal) {
+            return self.access_by(Terminal::NowVal, Access::NowVal);
+        }
+        self.access_by(Terminal::PreVal, Access::PreVal)
+    }
+
+    /// What is read of a name, by the word behind its dot.
+    #[tactic(auto, unfolding(crate::specs::Reference::behind_name))]
+    fn behind_name(&mut self) -> Result<Access, Refused>
+        ensures { Reads seen (rule.behind_name self.old) result self.new }
+    {
+        if !self.sees_punct(Punct::Dot) {
+            return Ok(Access::Parameter);
+        }
+        self.punct(Punct::Dot)?;
+        self.access()
+    }
+
+    /// A name with its dot and word is one leaf.
+    #[tactic(auto, unfolding(crate::specs::Reference::signal))]
+    fn signal(&mut self) -> Result<Expr<Name>, Refused>
+        ensures { Reads seen (rule.signal self.old) result self.new }
+    {
+        let (pos, name) = self.mark_name()?;
+        let access = self.behind_name()?;
+        Ok(node(pos, access.of(name)))
+    }
+
+    // ---- operators
+
+    #[tactic(auto, unfolding(crate::specs::Reference::binary))]
+    fn binary(&mut self, sign: Punct, operator: Operator) -> Result<(u32, Operator), Refused>
+        ensures { Reads seen (rule.binary sign operator self.old) result self.new }
+    {
+        let pos = self.mark(Terminal::Punct(sign))?;
+        Ok((pos, operator))
+    }
+
+    #[tactic(auto, unfolding(crate::specs::Reference::operator))]
+    fn operator(&mut self, level: Level) -> Result<(u32, Operator), Refused>
+        ensures { Reads seen (rule.operator level self.old) result self.new }
+    {
+        match level {
+            Level::Or => self.binary(Punct::Or, Operator::Or),
+            Level::And => self.binary(Punct::And, Operator::And),
+            Level::Sum => self.sum_operator(),
+            Level::Product => self.product_operator(),
+        }
+    }
+
+    #[tactic(auto, unfolding(crate::specs::Reference::operator))]
+    fn sum_operator(&mut self) -> Result<(u32, Operator), Refused>
+        ensures { Reads seen (rule.operator Level.Sum self.old) result self.new }
+    {
+        if self.sees_punct(Punct::Plus) {
+            return self.binary(Punct::Plus, Operator::Arith(Op::Add));
+        }
+        self.binary(Punct::Minus, Operator::Arith(Op::Sub))
+    }
+
+    #[tactic(auto, unfolding(crate::specs::Reference::operator))]
+    fn product_operator(&mut self) -> Result<(u32, Operator), Refused>
+        ensures { Reads seen (rule.operator Level.Product self.old) result self.new }
+    {
+        if self.sees_punct(Punct::Star) {
+            return self.binary(Punct::Star, Operator::Arith(Op::Mul));
+        }
+        if self.sees_punct(Punct::Slash) {
+            return self.binary(Punct::Slash, Operator::Arith(Op::Div));
+        }
+        self.binary(Punct::Percent, Operator::Arith(Op::Rem))
+    }
+
+    #[tactic(auto, unfolding(crate::specs::Reference::relation))]
+    fn relation(&mut self) -> Result<(u32, Operator), Refused>
+        ensures { Reads seen (rule.relation self.old) result self.new }
+    {
+        if self.sees_punct(Punct::EqualEqual) {
+            return self.binary(Punct::EqualEqual, Operator::Compare(Rel::Eq));
+        }
+        if self.sees_punct(Punct::NotEqual) {
+            return self.binary(Punct::NotEqual, Operator::Compare(Rel::Ne));
+        }
+        if self.sees_punct(Punct::Less) {
+            return self.binary(Punct::Less, Operator::Compare(Rel::Lt));
+        }
+        if self.sees_punct(Punct::LessEqual) {
+            return self.binary(Punct::LessEqual, Operator::Compare(Rel::Le));
+        }
+        if self.sees_punct(Punct::Greater) {
+            return self.binary(Punct::Greater, Operator::Compare(Rel::Gt));
+        }
+        self.binary(Punct::GreaterEqual, Operator::Compare(Rel::Ge))
+    }
+
+    #[tactic(auto, unfolding(grammar::specs::Parser::sees))]
+    fn sees_operator(&self, level: Level) -> bool
+        ensures { result ≡ parser.sees (rule.operates level) self.now }
+    {
+        match self.kind() {
+            None => false,
+            Some(next) => operates(level, next),
+        }
+    }
+
+    #[tactic(auto, unfolding(grammar::specs::Parser::sees))]
+    fn sees_relation(&self) -> bool
+        ensures { result ≡ parser.sees rule.relates self.now }
+    {
+        match self.kind() {
+            None => false,
+            Some(next) => relates(next),
+        }
+    }
+
+    // ---- expressions, where so many brackets may still be opened
+
+    #[cycle(expr)]
+    #[tactic(auto, unfolding(crate::specs::Reference::atom))]
+    fn atom(&mut self, room: u8) -> Result<Expr<Name>, Refused>
+        ensures { Reads seen (rule.atom (rule.inside room) self.old) result self.new }
+    {
+        match self.kind() {
+            Some(Terminal::Number) => self.integer_leaf(),
+            Some(Terminal::Keyword(Keyword::True)) => self.truth(Keyword::True, true),
+            Some(Terminal::Keyword(Keyword::False)) => self.truth(Keyword::False, false),
+            Some(Terminal::Quoted) => self.text_leaf(),
+            None | Some(Terminal::Keyword(_)) | Some(Terminal::Punct(_)) => self.inside(room),
+            Some(_) => self.signal(),
+        }
+    }
+
+    #[cycle(expr)]
+    #[tactic(auto, unfolding(crate::specs::Reference::negated))]
+    fn negated(&mut self, room: u8) -> Result<Expr<Name>, Refused>
+        ensures { Reads seen (rule.negated (rule.inside room) self.old) result self.new }
+    {
+        let pos = self.mark(Terminal::Punct(Punct::Not))?;
+        let operand = self.atom(room)?;
+        let operand = Boxed::new(self.alloc, operand)?;
+        Ok(node(pos, ExprNode::Not(operand)))
+    }
+
+    #[cycle(expr)]
+    #[tactic(auto, unfolding(crate::specs::Reference::negative))]
+    fn negative(&mut self, room: u8) -> Result<Expr<Name>, Refused>
+        ensures { Reads seen (rule.negative (rule.inside room) self.old) result self.new }
+    {
+        let pos = self.mark(Terminal::Punct(Punct::Minus))?;
+        let operand = self.atom(room)?;
+        let operand = Boxed::new(self.alloc, operand)?;
+        Ok(node(pos, ExprNode::Neg(operand)))
+    }
+
+    #[cycle(expr)]
+    #[tactic(auto, unfolding(crate::specs::Reference::unary))]
+    fn unary(&mut self, room: u8) -> Result<Expr<Name>, Refused>
+        ensures { Reads seen (rule.unary (rule.inside room) self.old) result self.new }
+    {
+        if self.sees_punct(Punct::Not) {
+            return self.negated(room);
+        }
+        if self.sees_punct(Punct::Minus) {
+            return self.negative(room);
+        }
+        self.atom(room)
+    }
+
+    /// What stands between the operators of a level.
+    #[cycle(expr)]
+    fn operand(&mut self, level: Level, room: u8) -> Result<Expr<Name>, Refused>
+        ensures { Reads seen (rule.operand level (rule.inside room) self.old) result self.new }
+    {
+        match level {
+            Level::Or => self.chain(Level::And, room),
+            Level::And => self.comparison(room),
+            Level::Sum => self.chain(Level::Product, room),
+            Level::Product => self.unary(room),
+        }
+    }
+
+    /// An operator of a level, and the operand behind it.
+    #[cycle(expr)]
+    #[tactic(auto, unfolding(crate::specs::Reference::term))]
+    fn term(&mut self, level: Level, room: u8) -> Result<((u32, Operator), Expr<Name>), Refused>
+        ensures { Reads seen (rule.term (rule.operator level) (rule.operand level (rule.inside room)) self.old) result self.new }
+    {
+        let operator = self.operator(level)?;
+        let operand = self.operand(level, room)?;
+        Ok((operator, operand))
+    }
+
+    /// Operands with operators of a level between them, which group to the left.
+    #[cycle(expr)]
+    #[tactic(auto, unfolding(crate::specs::Reference::chain))]
+    fn chain(&mut self, level: Level, room: u8) -> Result<Expr<Name>, Refused>
+        ensures { Reads seen (rule.chain level (rule.operand level (rule.inside room)) self.old) result self.new }
+    {
+        let mut left = self.operand(level, room)?;
+        'terms: while self.sees_operator(level) {
+            let (operator, right) = self.term(level, room)?;
+            left = join(self.alloc, left, operator, right)?;
+        }
+        Ok(left)
+    }
+
+    /// A relation, and the sum behind it.
+    #[cycle(expr)]
+    #[tactic(auto, unfolding(crate::specs::Reference::term))]
+    fn related(&mut self, room: u8) -> Result<((u32, Operator), Expr<Name>), Refused>
+        ensures { Reads seen (rule.term rule.relation (rule.sum (rule.inside room)) self.old) result self.new }
+    {
+        let operator = self.relation()?;
+        let operand = self.chain(Level::Sum, room)?;
+        Ok((operator, operand))
+    }
+
+    #[cycle(expr)]
+    #[tactic(auto, unfolding(crate::specs::Reference::comparison))]
+    fn comparison(&mut self, room: u8) -> Result<Expr<Name>, Refused>
+        ensures { Reads seen (rule.comparison (rule.inside room) self.old) result self.new }
+    {
+        let left = self.chain(Level::Sum, room)?;
+        if !self.sees_relation() {
+            return Ok(left);
+        }
+        let (operator, right) = self.related(room)?;
+        let joined = join(self.alloc, left, operator, right)?;
+        Ok(joined)
+    }
+
+    /// `?` with its place, and the two expressions behind it.
+    #[cycle(expr)]
+    #[tactic(auto, unfolding(crate::specs::Reference::branches))]
+    fn branches(&mut self, room: u8) -> Result<(u32, Expr<Name>, Expr<Name>), Refused>
+        ensures { Reads seen (rule.branches (rule.inside room) self.old) result self.new }
+    {
+        let pos = self.mark(Terminal::Punct(Punct::Question))?;
+        let then = self.chain(Level::Or, room)?;
+        self.punct(Punct::Colon)?;
+        let other = self.chain(Level::Or, room)?;
+        Ok((pos, then, other))
+    }
+
+    #[cycle(expr)]
+    #[tactic(auto, unfolding(crate::specs::Reference::expr))]
+    fn expr(&mut self, room: u8) -> Result<Expr<Name>, Refused>
+        ensures { Reads seen (rule.expr (rule.inside room) self.old) result self.new }
+    {
+        let test = self.chain(Level::Or, room)?;
+        if !self.sees_punct(Punct::Question) {
+            return Ok(test);
+        }
+        let (pos, then, other) = self.branches(room)?;
+        let chosen = choose(self.alloc, test, pos, then, other)?;
+        Ok(chosen)
+    }
+
+    /// An expression in round brackets.
+    #[cycle(expr)]
+    #[tactic(auto, unfolding(crate::specs::Reference::inside, crate::specs::Reference::in_round, grammar::specs::Parser::opened))]
+    fn inside(&mut self, room: u8) -> Result<Expr<Name>, Refused>
+        ensures { Reads seen (rule.inside room self.old) result self.new }
+    {
+        if room == 0 {
+            return Err(self.too_deep(Punct::LeftParen));
+        }
+        self.punct(Punct::LeftParen)?;
+        let expr = self.expr(room - 1)?;
+        self.punct(Punct::RightParen)?;
+        Ok(expr)
+    }
+
+    /// An outermost expression, and the place of its first token.
+    #[tactic(auto, unfolding(crate::specs::Reference::outermost, grammar::specs::Parser::placed))]
+    pub fn outermost(&mut self, room: u8) -> Result<ExprAt<Name>, Refused>
+        ensures { Reads seen (rule.outermost room self.old) result self.new }
+    {
+        self.begin_outermost();
+        let pos = Pos(self.here());
+        let expr = self.expr(room)?;
+        Ok(ExprAt { pos, expr })
+    }
+
+    /// An outermost expression in round brackets.
+    #[tactic(auto, unfolding(crate::specs::Reference::tested, crate::specs::Reference::in_round, grammar::specs::Parser::opened))]
+    pub fn tested(&mut self, room: u8) -> Result<ExprAt<Name>, Refused>
+        ensures { Reads seen (rule.tested room self.old) result self.new }
+    {
+        if room == 0 {
+            return Err(self.too_deep(Punct::LeftParen));
+        }
+        self.punct(Punct::LeftParen)?;
+        let expr = self.outermost(room - 1)?;
+        self.punct(Punct::RightParen)?;
+        Ok(expr)
+    }
+
+    fn next_outermost(&mut self, room: u8) -> Result<ExprAt<Name>, Refused>
+        ensures { Reads seen (rule.behind_comma (rule.outermost room) self.old) result self.new }
+    {
+        self.punct(Punct::Comma)?;
+        self.outermost(room)
+    }
+
+    /// One or more.
+    #[tactic(auto, unfolding(crate::specs::Reference::listed))]
+    fn exprs(&mut self, room: u8) -> Result<Items<ExprAt<Name>>, Refused>
+        ensures { Reads seen (rule.listed (rule.outermost room) self.old) result self.new }
+    {
+        let first = self.outermost(room)?;
+        let mut list = self.empty_list();
+        list.push(first)?;
+        'each: while self.sees_punct(Punct::Comma) {
+            let item = self.next_outermost(room)?;
+            list.push(item)?;
+        }
+        Ok(list)
+    }
+
+    /// The same, or none.
+    #[tactic(auto, unfolding(crate::specs::Reference::listed_or_none))]
+    fn exprs_or_none(&mut self, room: u8) -> Result<Items<ExprAt<Name>>, Refused>
+        ensures { Reads seen (rule.listed_or_none (rule.outermost room) self.old) result self.new }
+    {
+        if self.sees_in_round() {
+            self.exprs(room)
+        } else {
+            Ok(self.empty_list())
+        }
+    }
+
+    /// The arguments of a call, in round brackets.
+    #[tactic(auto, unfolding(crate::specs::Reference::in_round, grammar::specs::Parser::opened))]
+    pub fn arguments(&mut self, room: u8) -> Result<Items<ExprAt<Name>>, Refused>
+        ensures { Reads seen (rule.in_round rule.arguments room self.old) result self.new }
+    {
+        if room == 0 {
+            return Err(self.too_deep(Punct::LeftParen));
+        }
+        self.punct(Punct::LeftParen)?;
+        let list = self.exprs_or_none(room - 1)?;
+        self.punct(Punct::RightParen)?;
+        Ok(list)
+    }
+}
+
+fn operates(level: Level, terminal: Terminal) -> bool
+    ensures { result ≡ rule.operates level terminal }
+{
+    match (level, terminal) {
+        (Level::Or, Terminal::Punct(Punct::Or)) => true,
+        (Level::And, Terminal::Punct(Punct::And)) => true,
+        (Level::Sum, Terminal::Punct(Punct::Plus | Punct::Minus)) => true,
+        (Level::Product, Terminal::Punct(Punct::Star | Punct::Slash | Punct::Percent)) => true,
+        _ => false,
+    }
+}
+
+fn relates(terminal: Terminal) -> bool
+    ensures { result ≡ rule.relates terminal }
+{
+    matches!(
+        terminal,
+        Terminal::Punct(
+            Punct::EqualEqual
+                | Punct::NotEqual
+                | Punct::Less
+                | Punct::LessEqual
+                | Punct::Greater
+                | Punct::GreaterEqual
+        )
+    )
+}
