@@ -1,0 +1,10 @@
+pub mod DeclarationRules
+pub mod DelayRules
+pub mod StatementRules
+pub mod TopRules
+pub mod Items
+pub mod Texts
+pub mod written
+pub mod RealTokens
+pub mod ReadTexts
+pub mod Closings

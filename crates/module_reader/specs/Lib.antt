@@ -1,0 +1,5 @@
+pub mod Trees
+pub mod Rules
+pub mod Reference
+pub mod Refusals
+pub mod Reading

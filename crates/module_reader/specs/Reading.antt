@@ -1,0 +1,75 @@
+-- What is promised of reading a module text: its tree, or its first fault. This project's own.
+use Rattle.std.specs.Prelude.{◌≡◌, ◌⊎◌, ℕ, false, List, map, length, Option, Some, None, Err}
+use Rattle.module_token.specs.declared.fault.ReadKind.{ReadKind}
+use Rattle.module_token.specs.declared.fault.ReadKind.TheVariants as k
+use Rattle.module_token.specs.Tokens as token
+use Rattle.module_token.specs.Tokens.{Tokens, FirstTokenFault}
+use Rattle.hh_term.specs.declared.source.Top.{Top}
+use Rattle.grammar.specs.Tokens.{Tok}
+use Rattle.grammar.specs.Fault.{Fault, Unexpected, EndOfText, Deep, Large, OutOfRange}
+use Rattle.grammar.specs.Parser.{start, whole}
+use Rattle.grammar.specs.Texts.{Within, FirstFault}
+use Rattle.module_reader.specs.declared.fault.ReadFault.{ReadFault}
+use Rattle.expression_reader.specs.declared.terminal.Terminal.{Terminal}
+use Rattle.expression_reader.specs.Cursor.{spelled, value_of}
+use Rattle.expression_reader.specs.Terminals.{symbols, terminal}
+use Rattle.expression_reader.specs.Trees.{Name, at}
+use Rattle.module_reader.specs.Trees.{has_module}
+use Rattle.module_reader.specs.Rules.{tops, texts}
+use Rattle.expression_reader.specs.Rules.{largest}
+use Rattle.module_reader.specs.Reference as rule
+
+-- what a token of a text is to the grammar
+abbrev pub to_grammar : token.Tok → Tok Terminal
+to_grammar t = record { place = t.pos; kind = terminal t.what t.text; text = spelled t.what t.text; value = value_of t.what }
+
+-- the text has tokens that spell the tree, within the limits
+pub record HasTree (text : List ℕ) (tree : List (Top Name)) : Type 0 where
+  pub tokens : List token.Tok
+  pub has_tokens : Tokens text tokens
+  pub spells : Within symbols texts tree (map to_grammar tokens)
+
+-- ---- faults
+
+-- what the grammar says of the tokens of a text, by the kind of a fault
+abbrev pub fault_of : ReadKind → Option Fault
+fault_of k.Unexpected = Some Unexpected
+fault_of k.EndOfText = Some EndOfText
+fault_of k.DeepNesting = Some Deep
+fault_of k.ExprLarge = Some Large
+fault_of k.NumberLarge = Some (OutOfRange 0 largest)
+fault_of k.BadCount = Some (OutOfRange 1 64)
+fault_of _ = None
+
+-- It is the first fault of the grammar in these tokens of a text of so many bytes. It is one also where no module is asked for: so the text ends at an EndOfText
+-- inside a body, a host or a module.
+pub record IsGrammarFault (size : ℕ) (ts : List (Tok Terminal)) (e : ReadFault) : Type 0 where
+  pub fault : Fault
+  pub of_kind : fault_of e.kind ≡ Some fault
+  pub first : FirstFault symbols texts size ts (record { place = e.pos.0; fault = fault })
+  pub inside : FirstFault symbols tops size ts (record { place = e.pos.0; fault = fault })
+
+-- the whole text is read, and has no module: the place is 0
+pub record HasNoModule (ts : List (Tok Terminal)) (e : ReadFault) : Type 0 where
+  pub kind : e.kind ≡ k.NoModule
+  pub place : e.pos ≡ at 0
+  pub tree : List (Top Name)
+  pub spells : Within symbols tops tree ts
+  pub none : has_module tree ≡ false
+
+-- there are tokens, and the fault is the grammar's
+pub record IsFaultOfTokens (text : List ℕ) (e : ReadFault) : Type 0 where
+  pub tokens : List token.Tok
+  pub has_tokens : Tokens text tokens
+  pub fault : IsGrammarFault (length text) (map to_grammar tokens) e ⊎ HasNoModule (map to_grammar tokens) e
+
+-- the first fault of a text: that of its tokens, or else that of the grammar
+abbrev pub IsFirstFault : List ℕ → ReadFault → Type 0
+IsFirstFault text e = FirstTokenFault text (record { pos = e.pos; kind = e.kind }) ⊎ IsFaultOfTokens text e
+
+-- The kind of a grammar's fault is the one that the reader of the rule has. Where a number is out of range, no text goes on with it whether its own fault is named
+-- or Unexpected: a number in an expression and that of `count` have faults of their own, and a first value has none.
+abbrev pub IsByRule : List ℕ → ReadFault → Type 0
+IsByRule text e =
+    (tokens : List token.Tok) (f : Fault) → Tokens text tokens → fault_of e.kind ≡ Some f
+    → whole (rule.tops 128) (start (map to_grammar tokens) (length text)) ≡ Err (record { place = e.pos.0; fault = f })

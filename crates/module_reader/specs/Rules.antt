@@ -1,0 +1,445 @@
+-- The grammar of the module text: each rule stands over what it says. The number `room` says how many brackets may still be opened. This project's own, after
+-- HipHop.js.
+use Rattle.std.specs.Prelude.{◌≡◌, ℕ, zero, suc, ◌^◌, pos, neg_ℤ, Bool, true, false, List, ◌∷◌, Option}
+use Rattle.hh_base.specs.declared.value.Kind.{Kind}
+use Rattle.hh_base.specs.declared.value.Kind.TheVariants as kind
+use Rattle.hh_base.specs.declared.value.Value.{Value}
+use Rattle.hh_base.specs.declared.value.Value.TheVariants as value
+use Rattle.hh_base.specs.declared.value.CombineWord.{CombineWord}
+use Rattle.hh_base.specs.declared.value.CombineWord.TheVariants as combine
+use Rattle.module_token.specs.declared.keyword.Keyword.{Keyword}
+use Rattle.module_token.specs.declared.keyword.Keyword.TheVariants as word
+use Rattle.module_token.specs.declared.punct.Punct.TheVariants as mark
+use Rattle.hh_term.specs.declared.program.Dir.{Dir}
+use Rattle.hh_term.specs.declared.program.Dir.TheVariants as dir
+use Rattle.hh_term.specs.declared.source.NameAt.{NameAt}
+use Rattle.hh_term.specs.declared.source.ExprAt.{ExprAt}
+use Rattle.hh_term.specs.declared.source.ParamNode.{ParamNode}
+use Rattle.hh_term.specs.declared.source.SigNode.{SigNode}
+use Rattle.hh_term.specs.declared.source.DeclNode.{DeclNode}
+use Rattle.hh_term.specs.declared.source.BlockNode.{BlockNode}
+use Rattle.hh_term.specs.declared.source.StatementNode.{StatementNode}
+use Rattle.hh_term.specs.declared.source.Statement.{Statement}
+use Rattle.hh_term.specs.declared.source.Statement.TheVariants as node
+use Rattle.hh_term.specs.declared.source.Delay.{Delay}
+use Rattle.hh_term.specs.declared.source.Delay.TheVariants as delay
+use Rattle.hh_term.specs.declared.source.Plain.{Plain}
+use Rattle.hh_term.specs.declared.source.Plain.TheVariants as plain
+use Rattle.hh_term.specs.declared.source.Binding.{Binding}
+use Rattle.hh_term.specs.declared.source.Top.{Top}
+use Rattle.hh_term.specs.declared.source.Top.TheVariants as top
+use Rattle.grammar.specs.Language as language
+use Rattle.grammar.specs.Language.{◌>>=◌, ◌>>◌, pure, ◌or◌, many, nothing}
+use Rattle.expression_reader.specs.declared.terminal.Terminal.{Terminal}
+use Rattle.expression_reader.specs.declared.terminal.Terminal.TheVariants as terminal
+use Rattle.expression_reader.specs.Trees.{Name, at}
+use Rattle.expression_reader.specs.Rules.{Lang, keyword, punct, name, quoted, named, number, optional, listed, listed_or_none, in_round, in_curly, largest, outermost, tested, arguments}
+use Rattle.module_reader.specs.Trees.{statement_at, block_at, nested, has_module}
+
+-- ---- declarations
+
+abbrev pub type_by : Keyword → Kind → Lang Kind
+type_by name what = do
+  keyword name
+  pure what
+
+-- valued = "int" | "bool" | "text"
+abbrev pub valued : Lang Kind
+valued = type_by word.Int kind.Int or type_by word.Bool kind.Bool or type_by word.Text kind.Text
+
+-- type = "pure" | valued
+abbrev pub type : Lang Kind
+type = type_by word.Pure kind.Pure or valued
+
+abbrev pub literal_by : Keyword → Bool → Lang Value
+literal_by name truth = do
+  keyword name
+  pure (value.Bool truth)
+
+abbrev pub literal_text : Lang Value
+literal_text = do
+  written ← quoted
+  pure (value.Text written.1)
+
+abbrev pub literal_number : Lang Value
+literal_number = do
+  written ← number 0 largest
+  pure (value.Int (pos written.1))
+
+abbrev pub literal_negative : Lang Value
+literal_negative = do
+  punct mark.Minus
+  written ← number 0 (2 ^ 63)
+  pure (value.Int (neg_ℤ (pos written.1)))
+
+-- literal = "true" | "false" | quoted | number | "-" number
+abbrev pub literal : Lang Value
+literal = literal_by word.True true or literal_by word.False false or literal_text or literal_number or literal_negative
+
+abbrev pub behind_colon : Lang Kind
+behind_colon = do
+  punct mark.Colon
+  type
+
+abbrev pub behind_equal : Lang Value
+behind_equal = do
+  punct mark.Equal
+  literal
+
+abbrev pub combine_by : Terminal → CombineWord → Lang CombineWord
+combine_by name what = do
+  language.token name
+  pure what
+
+-- combine = "plus" | "min" | "max" | "and" | "or"
+abbrev pub combine_word : Lang CombineWord
+combine_word =
+    combine_by terminal.Plus combine.Plus or combine_by terminal.Min combine.Min or combine_by terminal.Max combine.Max or combine_by terminal.And combine.And
+    or combine_by terminal.Or combine.Or
+
+abbrev pub behind_combine : Lang CombineWord
+behind_combine = do
+  keyword word.Combine
+  combine_word
+
+-- sig = name [ ":" type ] [ "=" literal ] [ "combine" combine ]
+-- A signal without a type is pure.
+abbrev pub sig : Lang SigNode
+sig = do
+  declared ← name
+  typed ← behind_colon or pure kind.Pure
+  first ← optional behind_equal
+  combined ← optional behind_combine
+  pure (record { pos = at declared.0; name = declared.1; kind = typed; first = first; combine = combined })
+
+abbrev pub dir_by : Keyword → Dir → Lang Dir
+dir_by name what = do
+  keyword name
+  pure what
+
+abbrev pub direction : Lang Dir
+direction = dir_by word.In dir.Input or dir_by word.Out dir.Output or dir_by word.Inout dir.Both
+
+-- decl = ( "in" | "out" | "inout" ) sig
+abbrev pub decl : Lang DeclNode
+decl = do
+  way ← direction
+  signal ← sig
+  pure (record { dir = way; sig = signal })
+
+-- param = name ":" valued
+abbrev pub param : Lang ParamNode
+param = do
+  declared ← name
+  punct mark.Colon
+  typed ← valued
+  pure (record { pos = at declared.0; name = declared.1; kind = typed })
+
+-- ---- delays
+
+-- once = "(" expr ")"
+abbrev pub once : ℕ → Lang (Plain Name)
+once room = do
+  test ← tested room
+  pure (plain.Once test)
+
+abbrev pub times : ℕ → Lang (ℕ × ExprAt Name)
+times room = do
+  written ← number 1 64
+  punct mark.Comma
+  test ← outermost room
+  pure (written.1, test)
+
+-- count = "count" "(" number "," expr ")"
+abbrev pub count : ℕ → Lang (Plain Name)
+count room = do
+  keyword word.Count
+  counted ← in_round times room
+  pure (plain.Count counted.0 counted.1)
+
+-- plain = once | count
+abbrev pub plain_delay : ℕ → Lang (Plain Name)
+plain_delay room = once room or count room
+
+abbrev pub plainly : ℕ → Lang (Delay Name)
+plainly room = do
+  waited ← plain_delay room
+  pure (delay.Plain waited)
+
+abbrev pub immediate : ℕ → Lang (Delay Name)
+immediate room = do
+  keyword word.Immediate
+  test ← tested room
+  pure (delay.Immediate test)
+
+-- delay = plain | "immediate" "(" expr ")"
+abbrev pub any_delay : ℕ → Lang (Delay Name)
+any_delay room = immediate room or plainly room
+
+-- ---- statements, by their blocks
+
+-- "nothing" ";" | "pause" ";" | "halt" ";"
+abbrev pub simple : Keyword → Statement Name → Lang (StatementNode Name)
+simple name what = do
+  place ← keyword name
+  punct mark.Semicolon
+  pure (statement_at place what)
+
+-- name [ "(" expr ")" ] ";"
+abbrev pub emission : ℕ → Lang (NameAt Name × Option (ExprAt Name))
+emission room = do
+  signal ← named
+  emitted ← optional (tested room)
+  punct mark.Semicolon
+  pure (signal, emitted)
+
+-- "emit" name [ "(" expr ")" ] ";"
+abbrev pub emit : ℕ → Lang (StatementNode Name)
+emit room = do
+  place ← keyword word.Emit
+  emitted ← emission room
+  pure (statement_at place (node.Emit emitted.0 emitted.1))
+
+-- "sustain" name [ "(" expr ")" ] ";"
+abbrev pub sustain : ℕ → Lang (StatementNode Name)
+sustain room = do
+  place ← keyword word.Sustain
+  emitted ← emission room
+  pure (statement_at place (node.Sustain emitted.0 emitted.1))
+
+abbrev pub behind_else : Lang (BlockNode Name) → Lang (BlockNode Name)
+behind_else block = do
+  keyword word.Else
+  block
+
+-- "if" "(" expr ")" block [ "else" block ]
+abbrev pub choice : Lang (BlockNode Name) → ℕ → Lang (StatementNode Name)
+choice block room = do
+  place ← keyword word.If
+  test ← tested room
+  first ← block
+  second ← optional (behind_else block)
+  pure (statement_at place (node.If test first second))
+
+-- "loop" block
+abbrev pub loop : Lang (BlockNode Name) → Lang (StatementNode Name)
+loop block = do
+  place ← keyword word.Loop
+  repeated ← block
+  pure (statement_at place (node.Loop repeated))
+
+abbrev pub behind_par : Lang (BlockNode Name) → Lang (BlockNode Name)
+behind_par block = do
+  keyword word.Par
+  block
+
+-- block { "par" block }
+abbrev pub branches_of : Lang (BlockNode Name) → Lang (List (BlockNode Name))
+branches_of block = do
+  first ← block
+  others ← many (behind_par block)
+  pure (first ∷ others)
+
+-- "fork" block { "par" block }
+abbrev pub fork : Lang (BlockNode Name) → Lang (StatementNode Name)
+fork block = do
+  place ← keyword word.Fork
+  branches ← branches_of block
+  pure (statement_at place (node.Fork branches))
+
+-- a block that is a statement
+abbrev pub nested_block : Lang (BlockNode Name) → Lang (StatementNode Name)
+nested_block block = do
+  inner ← block
+  pure (nested inner)
+
+-- "await" delay ";"
+abbrev pub await : ℕ → Lang (StatementNode Name)
+await room = do
+  place ← keyword word.Await
+  waited ← any_delay room
+  punct mark.Semicolon
+  pure (statement_at place (node.Await waited))
+
+-- "every" delay block
+abbrev pub every : Lang (BlockNode Name) → ℕ → Lang (StatementNode Name)
+every block room = do
+  place ← keyword word.Every
+  waited ← any_delay room
+  repeated ← block
+  pure (statement_at place (node.Every waited repeated))
+
+-- "do" block "every" plain ";"
+abbrev pub do_every : Lang (BlockNode Name) → ℕ → Lang (StatementNode Name)
+do_every block room = do
+  place ← keyword word.Do
+  repeated ← block
+  keyword word.Every
+  waited ← plain_delay room
+  punct mark.Semicolon
+  pure (statement_at place (node.DoEvery repeated waited))
+
+-- "abort" delay block
+abbrev pub abort : Lang (BlockNode Name) → ℕ → Lang (StatementNode Name)
+abort block room = do
+  place ← keyword word.Abort
+  waited ← any_delay room
+  aborted ← block
+  pure (statement_at place (node.Abort waited aborted))
+
+-- "weakabort" delay block
+abbrev pub weak_abort : Lang (BlockNode Name) → ℕ → Lang (StatementNode Name)
+weak_abort block room = do
+  place ← keyword word.WeakAbort
+  waited ← any_delay room
+  aborted ← block
+  pure (statement_at place (node.WeakAbort waited aborted))
+
+abbrev pub has_immediate : Lang Bool
+has_immediate = (do keyword word.Immediate; pure true) or pure false
+
+-- "suspend" [ "immediate" ] "(" expr ")" block
+abbrev pub suspend : Lang (BlockNode Name) → ℕ → Lang (StatementNode Name)
+suspend block room = do
+  place ← keyword word.Suspend
+  at_once ← has_immediate
+  test ← tested room
+  suspended ← block
+  pure (statement_at place (node.Suspend at_once test suspended))
+
+-- "signal" sig { "," sig } block
+abbrev pub local : Lang (BlockNode Name) → Lang (StatementNode Name)
+local block = do
+  place ← keyword word.Signal
+  signals ← listed sig
+  scope ← block
+  pure (statement_at place (node.Signal signals scope))
+
+-- "trap" name block
+abbrev pub trap : Lang (BlockNode Name) → Lang (StatementNode Name)
+trap block = do
+  place ← keyword word.Trap
+  declared ← name
+  scope ← block
+  pure (statement_at place (node.Trap declared.1 scope))
+
+-- "break" name ";"
+abbrev pub break_out : Lang (StatementNode Name)
+break_out = do
+  place ← keyword word.Break
+  left ← named
+  punct mark.Semicolon
+  pure (statement_at place (node.Break left))
+
+-- name "=" name
+abbrev pub binding : Lang (Binding Name)
+binding = do
+  inner ← named
+  punct mark.Equal
+  outer ← named
+  pure (record { left = inner; right = outer })
+
+abbrev pub bindings : ℕ → Lang (List (Binding Name))
+bindings left = listed_or_none binding
+
+-- "run" name "(" [ name "=" name { "," name "=" name } ] ")" ";"
+abbrev pub run : ℕ → Lang (StatementNode Name)
+run room = do
+  place ← keyword word.Run
+  called ← named
+  bound ← in_round bindings room
+  punct mark.Semicolon
+  pure (statement_at place (node.Run called bound))
+
+abbrev pub result : ℕ → Lang (NameAt Name)
+result left = named
+
+abbrev pub handler : Keyword → Lang Name
+handler name = do
+  keyword name
+  written ← quoted
+  pure written.1
+
+-- "async" [ "(" name ")" ] "call" name "(" [ expr { "," expr } ] ")" [ "kill" quoted ] [ "suspend" quoted ] [ "resume" quoted ] ";"
+abbrev pub async : ℕ → Lang (StatementNode Name)
+async room = do
+  place ← keyword word.Async
+  signal ← optional (in_round result room)
+  keyword word.Call
+  called ← named
+  given ← in_round arguments room
+  killed ← optional (handler word.Kill)
+  suspended ← optional (handler word.Suspend)
+  resumed ← optional (handler word.Resume)
+  punct mark.Semicolon
+  pure (statement_at place (node.Async (record { signal = signal; body = called; args = given; kill = killed; suspend = suspended; resume = resumed })))
+
+abbrev pub statement : Lang (BlockNode Name) → ℕ → Lang (StatementNode Name)
+statement block room =
+    simple word.Nothing node.Nothing or simple word.Pause node.Pause or simple word.Halt node.Halt
+    or emit room or sustain room
+    or choice block room
+    or loop block or fork block
+    or await room or every block room or do_every block room
+    or abort block room or weak_abort block room
+    or suspend block room
+    or local block
+    or trap block or break_out
+    or run room or async room
+    or nested_block block
+
+-- block = "{" { statement } "}"
+abbrev pub block : ℕ → Lang (BlockNode Name)
+block zero = nothing
+block (suc room) = language.opened (suc room) (terminal.Punct mark.LeftBrace) (λ left place. do statements ← many (statement (block room) room); punct mark.RightBrace; pure (block_at place statements))
+
+-- ---- texts. No bracket is open before the lists of their declarations, so there is always room for one.
+
+-- body = "body" name "(" [ param { "," param } ] ")" ":" valued "{" expr "}"
+abbrev pub body : ℕ → Lang (Top Name)
+body room = do
+  keyword word.Body
+  declared ← name
+  punct mark.LeftParen
+  params ← listed_or_none param
+  punct mark.RightParen
+  punct mark.Colon
+  answer ← valued
+  expression ← in_curly outermost room
+  pure (top.Body (record { pos = at declared.0; name = declared.1; params = params; answer = answer; expr = expression }))
+
+-- host = "host" name "(" [ valued { "," valued } ] ")" ":" type ";"
+abbrev pub host : Lang (Top Name)
+host = do
+  token ← keyword word.Host
+  declared ← name
+  punct mark.LeftParen
+  params ← listed_or_none valued
+  punct mark.RightParen
+  punct mark.Colon
+  answer ← type
+  punct mark.Semicolon
+  pure (top.Host (record { pos = at declared.0; token = at token; name = declared.1; params = params; answer = answer }))
+
+-- module = "module" name "(" [ decl { "," decl } ] ")" block
+abbrev pub module_of : ℕ → Lang (Top Name)
+module_of room = do
+  keyword word.Module
+  declared ← name
+  punct mark.LeftParen
+  decls ← listed_or_none decl
+  punct mark.RightParen
+  statements ← block room
+  pure (top.Module (record { pos = at declared.0; name = declared.1; decls = decls; block = statements }))
+
+-- body | host | module
+abbrev pub top_of : ℕ → Lang (Top Name)
+top_of room = body room or host or module_of room
+
+-- { body | host | module }
+abbrev pub tops : ℕ → Lang (List (Top Name))
+tops room = many (top_of room)
+
+-- text = { body | host } module { body | host | module }
+abbrev pub texts : ℕ → Lang (List (Top Name))
+texts room tree text marks = tops room tree text marks × (has_module tree ≡ true)

@@ -1,0 +1,195 @@
+//! Delays, emissions, and the parts of `run` and `async`.
+ghost use Rattle.std.specs.Prelude.{◌≡◌};
+ghost use Rattle.grammar.specs.Parser.{Reads};
+ghost use Rattle.expression_reader.specs.Refusals.{seen};
+ghost use Rattle.expression_reader.specs.Reference as part;
+ghost use Rattle.module_reader.specs.Reference as rule;
+
+use crate::lists::read_list_or_none;
+use expression_reader::cursor::Reader;
+use expression_reader::fault::Refused;
+use hh_base::name::Name;
+use hh_base::text::Text;
+use hh_term::source::{Binding, Delay, ExprAt, NameAt, Plain};
+use module_token::keyword::Keyword;
+use module_token::punct::Punct;
+use sqlite_items::Items;
+
+// ---- delays
+
+/// How often, and for what.
+#[tactic(auto, unfolding(crate::specs::Reference::times, expression_reader::specs::Reference::in_round, grammar::specs::Parser::opened))]
+fn read_counted_times(reader: &mut Reader<'_>, room: u8) -> Result<(u8, ExprAt<Name>), Refused>
+    ensures { Reads seen (part.in_round rule.times room reader.old) result reader.new }
+{
+    if room == 0 {
+        return Err(reader.too_deep(Punct::LeftParen));
+    }
+    reader.punct(Punct::LeftParen)?;
+    let (_, times) = reader.times()?;
+    reader.punct(Punct::Comma)?;
+    let expr = reader.outermost(room - 1)?;
+    reader.punct(Punct::RightParen)?;
+    Ok((times, expr))
+}
+
+#[tactic(auto, unfolding(crate::specs::Reference::count))]
+fn read_count_delay(reader: &mut Reader<'_>, room: u8) -> Result<Plain<Name>, Refused>
+    ensures { Reads seen (rule.count room reader.old) result reader.new }
+{
+    reader.keyword(Keyword::Count)?;
+    let (times, expr) = read_counted_times(reader, room)?;
+    Ok(Plain::Count(times, expr))
+}
+
+#[tactic(auto, unfolding(crate::specs::Reference::once))]
+fn read_once(reader: &mut Reader<'_>, room: u8) -> Result<Plain<Name>, Refused>
+    ensures { Reads seen (rule.once room reader.old) result reader.new }
+{
+    let expr = reader.tested(room)?;
+    Ok(Plain::Once(expr))
+}
+
+#[tactic(auto, unfolding(crate::specs::Reference::plain_delay))]
+pub(crate) fn read_plain_delay(reader: &mut Reader<'_>, room: u8) -> Result<Plain<Name>, Refused>
+    ensures { Reads seen (rule.plain_delay room reader.old) result reader.new }
+{
+    if reader.sees_punct(Punct::LeftParen) {
+        read_once(reader, room)
+    } else {
+        read_count_delay(reader, room)
+    }
+}
+
+#[tactic(auto, unfolding(crate::specs::Reference::immediate))]
+fn read_immediate(reader: &mut Reader<'_>, room: u8) -> Result<Delay<Name>, Refused>
+    ensures { Reads seen (rule.immediate room reader.old) result reader.new }
+{
+    reader.keyword(Keyword::Immediate)?;
+    let expr = reader.tested(room)?;
+    Ok(Delay::Immediate(expr))
+}
+
+#[tactic(auto, unfolding(crate::specs::Reference::plainly))]
+fn read_plainly(reader: &mut Reader<'_>, room: u8) -> Result<Delay<Name>, Refused>
+    ensures { Reads seen (rule.plainly room reader.old) result reader.new }
+{
+    let plain = read_plain_delay(reader, room)?;
+    Ok(Delay::Plain(plain))
+}
+
+#[tactic(auto, unfolding(crate::specs::Reference::any_delay))]
+pub(crate) fn read_any_delay(reader: &mut Reader<'_>, room: u8) -> Result<Delay<Name>, Refused>
+    ensures { Reads seen (rule.any_delay room reader.old) result reader.new }
+{
+    if reader.sees_keyword(Keyword::Immediate) {
+        read_immediate(reader, room)
+    } else {
+        read_plainly(reader, room)
+    }
+}
+
+#[tactic(auto, unfolding(crate::specs::Reference::has_immediate))]
+pub(crate) fn read_whether_immediate(reader: &mut Reader<'_>) -> Result<bool, Refused>
+    ensures { Reads seen (rule.has_immediate reader.old) result reader.new }
+{
+    if !reader.sees_keyword(Keyword::Immediate) {
+        return Ok(false);
+    }
+    reader.keyword(Keyword::Immediate)?;
+    Ok(true)
+}
+
+// ---- emissions
+
+#[tactic(auto, unfolding(crate::specs::Reference::emitted))]
+fn read_emitted(reader: &mut Reader<'_>, room: u8) -> Result<Option<ExprAt<Name>>, Refused>
+    ensures { Reads seen (rule.emitted room reader.old) result reader.new }
+{
+    if !reader.sees_punct(Punct::LeftParen) {
+        return Ok(None);
+    }
+    Ok(Some(reader.tested(room)?))
+}
+
+/// A signal, and its value where there is one.
+#[tactic(auto, unfolding(crate::specs::Reference::emission))]
+pub(crate) fn read_emission(
+    reader: &mut Reader<'_>,
+    room: u8,
+) -> Result<(NameAt<Name>, Option<ExprAt<Name>>), Refused>
+    ensures { Reads seen (rule.emission room reader.old) result reader.new }
+{
+    let signal = reader.name_at()?;
+    let value = read_emitted(reader, room)?;
+    reader.punct(Punct::Semicolon)?;
+    Ok((signal, value))
+}
+
+// ---- the parts of `run` and `async`
+
+#[tactic(auto, unfolding(crate::specs::Reference::binding))]
+pub(crate) fn read_binding(reader: &mut Reader<'_>) -> Result<Binding<Name>, Refused>
+    ensures { Reads seen (rule.binding reader.old) result reader.new }
+{
+    let left = reader.name_at()?;
+    reader.punct(Punct::Equal)?;
+    let right = reader.name_at()?;
+    Ok(Binding { left, right })
+}
+
+#[tactic(auto, unfolding(expression_reader::specs::Reference::in_round, grammar::specs::Parser::opened))]
+pub(crate) fn read_run_bindings(
+    reader: &mut Reader<'_>,
+    room: u8,
+) -> Result<Items<Binding<Name>>, Refused>
+    ensures { Reads seen (part.in_round rule.bindings room reader.old) result reader.new }
+{
+    if room == 0 {
+        return Err(reader.too_deep(Punct::LeftParen));
+    }
+    reader.punct(Punct::LeftParen)?;
+    let list = read_list_or_none(reader)?;
+    reader.punct(Punct::RightParen)?;
+    Ok(list)
+}
+
+#[tactic(auto, unfolding(expression_reader::specs::Reference::in_round, grammar::specs::Parser::opened))]
+fn read_name_in_round(reader: &mut Reader<'_>, room: u8) -> Result<NameAt<Name>, Refused>
+    ensures { Reads seen (part.in_round rule.result room reader.old) result reader.new }
+{
+    if room == 0 {
+        return Err(reader.too_deep(Punct::LeftParen));
+    }
+    reader.punct(Punct::LeftParen)?;
+    let name = reader.name_at()?;
+    reader.punct(Punct::RightParen)?;
+    Ok(name)
+}
+
+/// The signal that an async emits, where there is one.
+#[tactic(auto, unfolding(crate::specs::Reference::async_signal))]
+pub(crate) fn read_async_signal(
+    reader: &mut Reader<'_>,
+    room: u8,
+) -> Result<Option<NameAt<Name>>, Refused>
+    ensures { Reads seen (rule.async_signal room reader.old) result reader.new }
+{
+    if !reader.sees_punct(Punct::LeftParen) {
+        return Ok(None);
+    }
+    Ok(Some(read_name_in_round(reader, room)?))
+}
+
+/// The text of a handler, where there is one.
+#[tactic(auto, unfolding(crate::specs::Reference::handled))]
+pub(crate) fn read_handler(reader: &mut Reader<'_>, word: Keyword) -> Result<Option<Text>, Refused>
+    ensures { Reads seen (rule.handled word reader.old) result reader.new }
+{
+    if !reader.sees_keyword(word) {
+        return Ok(None);
+    }
+    reader.keyword(word)?;
+    let (_, text) = reader.quoted()?;
+    Ok(Some(text))
+}

@@ -1,0 +1,73 @@
+//! The call that reads a module text.
+ghost use Rattle.std.specs.Prelude.{◌≡◌, ◌≢◌, ◌<◌, ◌^◌, List, All, length, IfOk, IfErr, MatchResult};
+ghost use Rattle.hh_term.specs.declared.source.Top.{Top as ATop};
+ghost use Rattle.grammar.specs.Parser as parser;
+ghost use Rattle.grammar.specs.Parser.{Exact};
+ghost use Rattle.expression_reader.specs.Cursor.{IsReadable, toks};
+ghost use Rattle.module_reader.specs.Reading.{HasTree, IsFirstFault, IsByRule};
+ghost use Rattle.module_reader.specs.Reference as rule;
+ghost use Rattle.expression_reader.specs.Refusals.{seen};
+ghost use Rattle.expression_reader.specs.Trees.{Name as AName};
+
+use crate::fault::{ReadFault, as_fault};
+use crate::tops::{has_module, read_whole};
+use expression_reader::cursor::Reader;
+use expression_reader::fault::Refused;
+use hh_base::name::Name;
+use hh_base::value::Pos;
+use hh_term::source::{Modules, Top};
+use module_token::fault::ReadKind;
+use module_token::token::Token;
+use module_token::tokens::tokens;
+use sqlite_items::Items;
+use std::alloc::Global;
+
+/// The bodies, hosts and modules of a text, by its tokens.
+fn read_tokens(alloc: Global, text: &str, tokens: &[Token]) -> Result<Items<Top<Name>>, Refused>
+    requires readable { All (IsReadable text.now) tokens.now }
+    requires short { length text.now < 2 ^ 32 }
+    ensures { Exact seen (parser.whole (rule.tops 128) (parser.start (toks text.now tokens.now) (length text.now))) result }
+{
+    let mut reader = Reader::new(alloc, text, tokens, text.len() as u32);
+    read_whole(&mut reader)
+}
+
+/// The tree of a module text of fewer than 2^32 bytes, or its first fault: that of its tokens, or, where it has
+/// tokens, that of the grammar. Places are numbers of bytes.
+///
+/// # Errors
+/// Each kind but `NotUtf8`, which is of no text.
+pub fn read(alloc: Global, text: &str) -> Result<Modules, ReadFault>
+    requires { length text.now < 2 ^ 32 }
+    // What is read is the tree of the text.
+    ensures found { IfOk result (λ m. HasTree text.now m) }
+    // A tree that the text has is read, unless memory runs out: so no text that is refused has one.
+    ensures only { (m : List (ATop AName)) → HasTree text.now m → MatchResult result (λ r. r ≡ m) (λ e. e.kind ≡ ReadKind.NoMemory) }
+    // Where it is refused, it is the first fault.
+    ensures fault { IfErr result (λ e. e.kind ≢ ReadKind.NoMemory → IsFirstFault text.now e) }
+    // Which fault of a number it is, its rule says.
+    ensures by_rule { IfErr result (IsByRule text.now) }
+{
+    let tokens = match tokens(alloc, text) {
+        Ok(tokens) => tokens,
+        Err(fault) => {
+            return Err(ReadFault {
+                pos: fault.pos,
+                kind: fault.kind,
+            });
+        }
+    };
+    match read_tokens(alloc, text, tokens.as_slice()) {
+        Err(refused) => Err(as_fault(refused)),
+        Ok(tops) => {
+            if has_module(tops.as_slice()) {
+                Ok(Modules::new(tops))
+            } else {
+                Err(ReadFault {
+                    pos: Pos(0),
+                    kind: ReadKind::NoModule,
+                })
+            }
+        }
+    }
+}
