@@ -1,0 +1,3 @@
+pub mod spelling
+pub mod lifting
+pub mod Trips

@@ -1,0 +1,15 @@
+pub mod Lifting
+pub mod TokenKinds
+pub mod OneToken
+pub mod Nodes
+pub mod Chains
+pub mod Looser
+pub mod Expressions
+pub mod Operators
+pub mod LawfulTokens
+pub mod Delays
+pub mod Declarations
+pub mod Statements
+pub mod Compounds
+pub mod Blocks
+pub mod Texts

@@ -1,0 +1,69 @@
+-- The bytes that are printed of a source tree have exactly the printed tokens.
+use Rattle.std.proofs.Common.{◌≡◌, ℕ, true, List, [], ◌∷◌, map}
+use Rattle.std.specs.List.{AllByRecursion, flat_map, list_all}
+use Rattle.std.specs.Str.{IsUtf8}
+use Rattle.hh_term.specs.declared.source.BodyNode.{BodyNode}
+use Rattle.hh_term.specs.declared.source.HostNode.{HostNode}
+use Rattle.hh_term.specs.declared.source.ModuleNode.{ModuleNode}
+use Rattle.hh_term.specs.declared.source.Top.{Top}
+use Rattle.hh_term.specs.declared.source.Top.TheVariants as top
+use Rattle.hh_term.specs.Source.{is_source}
+use Rattle.hh_term.specs.SourceForms.{is_valued, fits_decl, fits_param, fits_top}
+use Rattle.hh_term.specs.SourceWords.{is_written_name}
+use Rattle.module_token.specs.declared.keyword.Keyword.{Keyword}
+use Rattle.module_token.specs.declared.keyword.Keyword.TheVariants as k
+use Rattle.module_token.specs.declared.punct.Punct.TheVariants as p
+use Rattle.module_token.specs.Spelling.{keyword_text}
+use Rattle.module_token.specs.Tokens.{Tok, Tokens}
+use Rattle.round_trip.specs.Lexemes.{Spells}
+use Rattle.module_printer.specs.Printed.{printed}
+use Rattle.module_printer.specs.ExpressionTokens.{Tokens as Words}
+use Rattle.module_printer.specs.SourceTokens.{tokens_of_kind, tokens_of_decl, tokens_of_param, tokens_of_heading, tokens_of_body, tokens_of_host, tokens_of_module, tokens_of_top}
+use Rattle.round_trip.proofs.spelling.Blanks.{and_true}
+use Rattle.round_trip.proofs.spelling.Lines.{Reading, nothing, line}
+use Rattle.round_trip.proofs.spelling.Words.{Spelt, name, keyword, mark, more, single, both, closed, enclosed, commas, all_passed}
+use Rattle.round_trip.proofs.spelling.Declarations.{kind_word, decl, param, outermost}
+use Rattle.round_trip.proofs.spelling.Statements.{block}
+
+abbrev Name : Type 0
+Name = List ℕ
+
+-- the word of a declaration, its name and its list
+heading : {A : Type 0} (word : Keyword) (n : Name) (words : A → Words) (items : List A) → is_written_name n ≡ true → AllByRecursion (λ a. Spelt (words a)) items → Spelt (tokens_of_heading (keyword_text word) n (map words items))
+heading word n words items h g = more (keyword word) (more (name n h) (enclosed (commas words items g)))
+
+body : (b : BodyNode Name) → fits_top (top.Body b) ≡ true → Spelt (tokens_of_body b)
+body b h =
+    let q = and_true _ _ h in
+    let r = and_true _ _ q.0 in
+    let s = and_true _ _ r.0 in
+    let params = all_passed (λ x. Spelt (tokens_of_param x)) fits_param param b.params s.1 in
+    both (both (heading k.Body b.name tokens_of_param b.params s.0 params) (more (mark p.Colon) (single (kind_word b.answer)))) (more (mark p.LeftBrace) (closed (outermost b.expr q.1) p.RightBrace))
+
+host : (h : HostNode) → fits_top (top.Host h) ≡ true → Spelt (tokens_of_host h)
+host x h =
+    let q = and_true _ _ h in
+    let params = all_passed (λ t. Spelt (tokens_of_kind t)) is_valued (λ t valued. single (kind_word t)) x.params q.1 in
+    both (both (heading k.Host x.name tokens_of_kind x.params q.0 params) (more (mark p.Colon) (single (kind_word x.answer)))) (single (mark p.Semicolon))
+
+module_words : (m : ModuleNode Name) → fits_top (top.Module m) ≡ true → Spelt (tokens_of_module m)
+module_words m h =
+    let q = and_true _ _ h in
+    let r = and_true _ _ q.0 in
+    let decls = all_passed (λ d. Spelt (tokens_of_decl d)) fits_decl decl m.decls r.1 in
+    both (heading k.Module m.name tokens_of_decl m.decls r.0 decls) (block m.block q.1)
+
+pub declaration : (t : Top Name) → fits_top t ≡ true → Spelt (tokens_of_top t)
+declaration (top.Body b) h = body b h
+declaration (top.Host x) h = host x h
+declaration (top.Module m) h = module_words m h
+
+lines : (tops : List (Top Name)) → list_all fits_top tops ≡ true → Reading (printed tops) (flat_map tokens_of_top tops)
+lines [] h = nothing
+lines (t ∷ tops) h = let q = and_true _ _ h in line (printed tops) (flat_map tokens_of_top tops) (lines tops q.1) (tokens_of_top t) (declaration t q.0)
+
+pub printed_has_tokens : (m : List (Top (List ℕ))) → is_source m ≡ true → (ts : List Tok) × Tokens (printed m) ts × Spells (flat_map tokens_of_top m) ts
+printed_has_tokens m h = (lines m (and_true _ _ (and_true _ _ h).0).1).1 0
+
+pub printed_is_utf8 : (m : List (Top (List ℕ))) → is_source m ≡ true → IsUtf8 (printed m)
+printed_is_utf8 m h = (lines m (and_true _ _ (and_true _ _ h).0).1).0
