@@ -12,6 +12,10 @@ use hiphop_main::ending::{Cause, Outcome};
 use std::alloc::Global;
 
 #[cfg(test)]
+mod examples;
+#[cfg(test)]
+mod reading;
+#[cfg(test)]
 mod tests;
 
 /// What a call answers, and what it wrote.

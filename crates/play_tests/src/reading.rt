@@ -1,0 +1,439 @@
+//! Module texts that are read, printed, and read again, and the login text cut off at each byte.
+
+use hh_term::source::Modules;
+use module_printer::print::print;
+use module_reader::fault::ReadFault;
+use module_reader::read::read;
+use module_token::fault::ReadKind;
+use std::alloc::Global;
+use std::test::Fail;
+
+/// A session that asks for a name and a word, looks them up in the background, and watches the clock.
+const LOGIN: &str = "\
+host same_text(text, text): bool;
+body minutes(n: int): int { n * 60 }
+module Login(in user: text, in word: text, in login, in logout, in tick, out ok: bool, out left: int, out state: text) {
+  every (login.now) {
+    emit state(\"checking\");
+    async (ok) call same_text(user.nowval, word.nowval) kill \"drop check\";
+    if (ok.nowval) {
+      emit state(\"open\");
+      weakabort (logout.now) {
+        abort count(3, tick.now) { async (left) call minutes(2) kill \"stop clock\"; halt; }
+      }
+      emit state(\"closed\");
+    } else { emit state(\"denied\"); }
+  }
+}
+";
+
+const LOGIN_PRINTED: &str = "\
+host same_text ( text , text ) : bool ;
+body minutes ( n : int ) : int { n * 60 }
+module Login ( in user : text , in word : text , in login , in logout , in tick , out ok : bool , out left : int , out state : text ) \
+{ every ( login . now ) { emit state ( \"checking\" ) ; async ( ok ) call same_text ( user . nowval , word . nowval ) kill \"drop check\" ; \
+if ( ok . nowval ) { emit state ( \"open\" ) ; weakabort ( logout . now ) { abort count ( 3 , tick . now ) { async ( left ) call minutes ( 2 ) \
+kill \"stop clock\" ; halt ; } } emit state ( \"closed\" ) ; } else { emit state ( \"denied\" ) ; } } }
+";
+
+/// Texts of each form, and their print.
+const PRINTS: [(&str, &str); 67] = [
+    ("module M(){}// nothing", "module M ( ) { }\n"),
+    ("module/**/M(/* a */) { // b\n }", "module M ( ) { }\n"),
+    (
+        "module N(in A, out B) {} module M() {} host f(): int; body g(): int { 1 }",
+        "module N ( in A , out B ) { }\nmodule M ( ) { }\nhost f ( ) : int ;\nbody g ( ) : int { 1 }\n",
+    ),
+    (
+        "host f(): pure; host g(int, bool, text): text; host h(int): bool; module M() {}",
+        "host f ( ) : pure ;\nhost g ( int , bool , text ) : text ;\nhost h ( int ) : bool ;\nmodule M ( ) { }\n",
+    ),
+    (
+        "body f(): text { \"\" } body g(a: int, b: bool, c: text): int { a } module M() {}",
+        "body f ( ) : text { \"\" }\nbody g ( a : int , b : bool , c : text ) : int { a }\nmodule M ( ) { }\n",
+    ),
+    (
+        "body größe(é: text): text { é + \"ü\" } module M() {}",
+        "body größe ( é : text ) : text { é + \"ü\" }\nmodule M ( ) { }\n",
+    ),
+    (
+        "module now(in pre, out plus) { if (pre.now && pre.pre) { emit plus; } }",
+        "module now ( in pre , out plus ) { if ( pre . now && pre . pre ) { emit plus ; } }\n",
+    ),
+    (
+        "module M(in A, out B, inout C) {}",
+        "module M ( in A , out B , inout C ) { }\n",
+    ),
+    (
+        "module M(in A: pure, out B: int, inout C: bool, in D: text) {}",
+        "module M ( in A , out B : int , inout C : bool , in D : text ) { }\n",
+    ),
+    (
+        "module M(in A: int combine plus, in B: int combine min, in C: int combine max) {}",
+        "module M ( in A : int combine plus , in B : int combine min , in C : int combine max ) { }\n",
+    ),
+    (
+        "module M(in A: bool combine and, in B: bool combine or) {}",
+        "module M ( in A : bool combine and , in B : bool combine or ) { }\n",
+    ),
+    (
+        "module M(out O: pure, in V: int = -5 combine plus) {}",
+        "module M ( out O , in V : int = - 5 combine plus ) { }\n",
+    ),
+    (
+        "module M(in A: int = -9223372036854775808, in T: text = \"\") {}",
+        "module M ( in A : int = - 9223372036854775808 , in T : text = \"\" ) { }\n",
+    ),
+    (
+        "module M(in A: int = 9223372036854775807, in B: int = 007, in C: int = -0) {}",
+        "module M ( in A : int = 9223372036854775807 , in B : int = 7 , in C : int = 0 ) { }\n",
+    ),
+    (
+        "module M(in A: bool = true, in B: bool = false, in C: text = \"a\") {}",
+        "module M ( in A : bool = true , in B : bool = false , in C : text = \"a\" ) { }\n",
+    ),
+    (
+        "module M(in A: text = \"\\\"\\\\\\n\\té\") {}",
+        "module M ( in A : text = \"\\\"\\\\\\n\\té\" ) { }\n",
+    ),
+    (
+        "host f(): pure; module M(in S = 5 combine max) {}",
+        "host f ( ) : pure ;\nmodule M ( in S = 5 combine max ) { }\n",
+    ),
+    (
+        "module M(in A = true, in B combine or, in C: pure = \"c\") {}",
+        "module M ( in A = true , in B combine or , in C = \"c\" ) { }\n",
+    ),
+    (
+        "module M(inout A, in B: bool = false combine and) { if (A.now) {} sustain A; }",
+        "module M ( inout A , in B : bool = false combine and ) { if ( A . now ) { } sustain A ; }\n",
+    ),
+    (
+        "module M() { signal S {} signal T: pure {} }",
+        "module M ( ) { signal S { } signal T { } }\n",
+    ),
+    (
+        "module M() { signal S: int = -5 combine min, T: bool = true, U: text = \"a\\n\", V: int combine max { pause; } }",
+        "module M ( ) { signal S : int = - 5 combine min , T : bool = true , U : text = \"a\\n\" , V : int combine max { pause ; } }\n",
+    ),
+    (
+        "module M() { signal S = 5 combine plus, T: bool = false combine and, U: bool combine or {} }",
+        "module M ( ) { signal S = 5 combine plus , T : bool = false combine and , U : bool combine or { } }\n",
+    ),
+    (
+        "module M(out O) { pause; emit O; }",
+        "module M ( out O ) { pause ; emit O ; }\n",
+    ),
+    (
+        "module M() { nothing; pause; halt; }",
+        "module M ( ) { nothing ; pause ; halt ; }\n",
+    ),
+    (
+        "module M(out O: int = 3 combine plus) { emit O(1); sustain O(O.pre ? 1 : 2); }",
+        "module M ( out O : int = 3 combine plus ) { emit O ( 1 ) ; sustain O ( O . pre ? 1 : 2 ) ; }\n",
+    ),
+    (
+        "module M(out O) { emit O; sustain O; }",
+        "module M ( out O ) { emit O ; sustain O ; }\n",
+    ),
+    ("module M() { { } }", "module M ( ) { { } }\n"),
+    (
+        "module M() { {} { pause; { halt; } } { {} {} } }",
+        "module M ( ) { { } { pause ; { halt ; } } { { } { } } }\n",
+    ),
+    (
+        "module M(in A) { if (A.now) {} if (A.now) { pause; } else { halt; } if (true) {} else {} }",
+        "module M ( in A ) { if ( A . now ) { } if ( A . now ) { pause ; } else { halt ; } if ( true ) { } else { } }\n",
+    ),
+    (
+        "module M(in A) { if (((A.now) || false) && !(A.pre)) {} else { halt; } }",
+        "module M ( in A ) { if ( ( A . now || false ) && ! A . pre ) { } else { halt ; } }\n",
+    ),
+    (
+        "module M() { if (a.now) { if (b.now) {} } else {} }",
+        "module M ( ) { if ( a . now ) { if ( b . now ) { } } else { } }\n",
+    ),
+    (
+        "module M() { if (a.now) { if (b.now) {} else {} } }",
+        "module M ( ) { if ( a . now ) { if ( b . now ) { } else { } } }\n",
+    ),
+    (
+        "module M() { loop { pause; } loop {} }",
+        "module M ( ) { loop { pause ; } loop { } }\n",
+    ),
+    (
+        "module M() { fork {} fork {} par {} fork {} par { pause; } par { halt; } }",
+        "module M ( ) { fork { } fork { } par { } fork { } par { pause ; } par { halt ; } }\n",
+    ),
+    (
+        "module M(in A) { await (A.now); await count(3, A.now); await immediate (A.now); }",
+        "module M ( in A ) { await ( A . now ) ; await count ( 3 , A . now ) ; await immediate ( A . now ) ; }\n",
+    ),
+    (
+        "module M(in A) { every (A.now) {} every count(064, A.now) {} every immediate (A.now) {} }",
+        "module M ( in A ) { every ( A . now ) { } every count ( 64 , A . now ) { } every immediate ( A . now ) { } }\n",
+    ),
+    (
+        "module M(in A) { do {} every (A.now); do { pause; } every count(1, A.now); }",
+        "module M ( in A ) { do { } every ( A . now ) ; do { pause ; } every count ( 1 , A . now ) ; }\n",
+    ),
+    (
+        "module M(in A) { abort (A.now) {} abort count(2, A.now) {} abort immediate (A.now) {} }",
+        "module M ( in A ) { abort ( A . now ) { } abort count ( 2 , A . now ) { } abort immediate ( A . now ) { } }\n",
+    ),
+    (
+        "module M(in A) { weakabort (A.now) {} weakabort count(2, A.now) {} weakabort immediate (A.now) {} }",
+        "module M ( in A ) { weakabort ( A . now ) { } weakabort count ( 2 , A . now ) { } weakabort immediate ( A . now ) { } }\n",
+    ),
+    (
+        "module M() { weakabort immediate (true) { } async call f() suspend \"s\"; }",
+        "module M ( ) { weakabort immediate ( true ) { } async call f ( ) suspend \"s\" ; }\n",
+    ),
+    (
+        "module M(in A) { suspend (A.now) {} suspend immediate (A.now) {} }",
+        "module M ( in A ) { suspend ( A . now ) { } suspend immediate ( A . now ) { } }\n",
+    ),
+    (
+        "module M() { trap T { break T; } trap U {} }",
+        "module M ( ) { trap T { break T ; } trap U { } }\n",
+    ),
+    (
+        "module M() { run N(); run N(A = B); run N(A = B, C = D); }",
+        "module M ( ) { run N ( ) ; run N ( A = B ) ; run N ( A = B , C = D ) ; }\n",
+    ),
+    (
+        "module M() { async call f(); async (O) call f(); async call f(1); async (O) call f(1, a, \"x\"); }",
+        "module M ( ) { async call f ( ) ; async ( O ) call f ( ) ; async call f ( 1 ) ; async ( O ) call f ( 1 , a , \"x\" ) ; }\n",
+    ),
+    (
+        "module M() { async call f() kill \"k\"; async call f() suspend \"s\"; async call f() resume \"r\"; }",
+        "module M ( ) { async call f ( ) kill \"k\" ; async call f ( ) suspend \"s\" ; async call f ( ) resume \"r\" ; }\n",
+    ),
+    (
+        "module M() { async call f() kill \"k\" suspend \"s\"; async call f() kill \"k\" resume \"r\"; async call f() suspend \"s\" resume \"r\"; }",
+        "module M ( ) { async call f ( ) kill \"k\" suspend \"s\" ; async call f ( ) kill \"k\" resume \"r\" ; async call f ( ) suspend \"s\" resume \"r\" ; }\n",
+    ),
+    (
+        "module M() { async (O) call g(1, a) kill \"k\" suspend \"\\\"\" resume \"\\\\\\t\"; }",
+        "module M ( ) { async ( O ) call g ( 1 , a ) kill \"k\" suspend \"\\\"\" resume \"\\\\\\t\" ; }\n",
+    ),
+    (
+        "body f(): int { 0009223372036854775807 } module M() {}",
+        "body f ( ) : int { 9223372036854775807 }\nmodule M ( ) { }\n",
+    ),
+    (
+        "body f(): bool { true || false } module M() {}",
+        "body f ( ) : bool { true || false }\nmodule M ( ) { }\n",
+    ),
+    (
+        "body f(): text { \"\\\"\\\\\\n\\té // \" } module M() {}",
+        "body f ( ) : text { \"\\\"\\\\\\n\\té // \" }\nmodule M ( ) { }\n",
+    ),
+    (
+        "body f(): int { a.now ? a.nowval : (a.pre ? a.preval : a) } module M() {}",
+        "body f ( ) : int { a . now ? a . nowval : ( a . pre ? a . preval : a ) }\nmodule M ( ) { }\n",
+    ),
+    (
+        "body f(a: int): bool { a <= 1 && a >= 2 || a > 3 && a != a.preval } module M() { async call f() resume \"r\"; }",
+        "body f ( a : int ) : bool { a <= 1 && a >= 2 || a > 3 && a != a . preval }\nmodule M ( ) { async call f ( ) resume \"r\" ; }\n",
+    ),
+    (
+        "body f(): bool { a == b && c < d } module M() {}",
+        "body f ( ) : bool { a == b && c < d }\nmodule M ( ) { }\n",
+    ),
+    (
+        "body f(): bool { !a && - 1 >= -(2) || !(!b) } module M() {}",
+        "body f ( ) : bool { ! a && - 1 >= - 2 || ! ( ! b ) }\nmodule M ( ) { }\n",
+    ),
+    (
+        "body f(): int { -a * -(b * c) - (-d) } module M() {}",
+        "body f ( ) : int { - a * - ( b * c ) - - d }\nmodule M ( ) { }\n",
+    ),
+    (
+        "body f(): int { (1 - (2 - 3)) * ((4) + -(5)) } module M() { { } }",
+        "body f ( ) : int { ( 1 - ( 2 - 3 ) ) * ( 4 + - 5 ) }\nmodule M ( ) { { } }\n",
+    ),
+    (
+        "body f(): int { 1 - 2 - 3 * 4 / 5 % 6 + (7 + 8) } module M() {}",
+        "body f ( ) : int { 1 - 2 - 3 * 4 / 5 % 6 + ( 7 + 8 ) }\nmodule M ( ) { }\n",
+    ),
+    (
+        "body f(): int { ((1 - 2) - 3) + (8 / 4) / 2 } module M() {}",
+        "body f ( ) : int { 1 - 2 - 3 + 8 / 4 / 2 }\nmodule M ( ) { }\n",
+    ),
+    (
+        "body f(): int { 1 + (2 * 3) % (4 / 5) - 8 / (4 / 2) } module M() {}",
+        "body f ( ) : int { 1 + 2 * 3 % ( 4 / 5 ) - 8 / ( 4 / 2 ) }\nmodule M ( ) { }\n",
+    ),
+    (
+        "body f(): bool { (a && b) && (c && d) || ((e || f) || (g || h)) } module M() {}",
+        "body f ( ) : bool { a && b && ( c && d ) || ( e || f || ( g || h ) ) }\nmodule M ( ) { }\n",
+    ),
+    (
+        "body f(): bool { (a == b) != ((c < d) == !(e || f)) } module M() {}",
+        "body f ( ) : bool { ( a == b ) != ( ( c < d ) == ! ( e || f ) ) }\nmodule M ( ) { }\n",
+    ),
+    (
+        "body f(): bool { (a + b) < (c - d) } module M() {}",
+        "body f ( ) : bool { a + b < c - d }\nmodule M ( ) { }\n",
+    ),
+    (
+        "body f(): bool { a ? b && c || d == e : f < g } module M() {}",
+        "body f ( ) : bool { a ? b && c || d == e : f < g }\nmodule M ( ) { }\n",
+    ),
+    (
+        "body f(): bool { (a || b) ? (c || d) : (e || f) } module M() {}",
+        "body f ( ) : bool { a || b ? c || d : e || f }\nmodule M ( ) { }\n",
+    ),
+    (
+        "body f(): bool { (a ? b : c) ? (d ? e : f) : (g ? h : i) } module M() {}",
+        "body f ( ) : bool { ( a ? b : c ) ? ( d ? e : f ) : ( g ? h : i ) }\nmodule M ( ) { }\n",
+    ),
+    (
+        "body f(): int { 1 + (a ? 2 : 3) } module M() { await ((a ? b : c)); }",
+        "body f ( ) : int { 1 + ( a ? 2 : 3 ) }\nmodule M ( ) { await ( a ? b : c ) ; }\n",
+    ),
+    (LOGIN, LOGIN_PRINTED),
+];
+
+fn read_short(alloc: Global, text: &str) -> Result<Modules, Fail> {
+    if text.len() >= 1 << 32 {
+        return Err(Fail::new("the text is too long"));
+    }
+    match read(alloc, text) {
+        Ok(modules) => Ok(modules),
+        Err(_) => Err(Fail::new("the text is refused")),
+    }
+}
+
+/// What is printed of a text that is read.
+fn printed(alloc: Global, text: &str) -> Result<String, Fail> {
+    let modules = read_short(alloc, text)?;
+    Ok(String::from_utf8(print(alloc, &modules)?)?)
+}
+
+#[test]
+fn prints_what_is_read(rt: HostRuntime) -> Result<(), Fail> {
+    for (text, want) in PRINTS {
+        let found = printed(rt.alloc(), text)?;
+        assert_eq!(rt; found.as_str(), want);
+    }
+    Ok(())
+}
+
+#[test]
+fn reads_what_is_printed(rt: HostRuntime) -> Result<(), Fail> {
+    for (_, text) in PRINTS {
+        let found = printed(rt.alloc(), text)?;
+        assert_eq!(rt; found.as_str(), text);
+    }
+    Ok(())
+}
+
+/// The words of the login text in whose place only certain words may stand.
+const FIXED_WORDS: [&str; 21] = [
+    "host",
+    "body",
+    "module",
+    "in",
+    "out",
+    "int",
+    "bool",
+    "text",
+    "every",
+    "emit",
+    "async",
+    "call",
+    "kill",
+    "if",
+    "else",
+    "weakabort",
+    "abort",
+    "count",
+    "halt",
+    "now",
+    "nowval",
+];
+
+/// The cuts that leave nothing, or whole hosts and bodies alone.
+const CUTS_BEFORE_MODULE: [usize; 5] = [0, 33, 34, 70, 71];
+
+/// Where the quoted text begins that a prefix leaves open.
+fn open_quote(prefix: &str) -> Option<usize> {
+    if prefix.matches('"').count() % 2 == 0 {
+        return None;
+    }
+    prefix.rfind('"')
+}
+
+/// Where the word begins that a cut goes through, if it leaves a word that may not stand there.
+fn broken_word(text: &str, end: usize) -> Option<usize> {
+    let prefix = text.get(..end)?;
+    let start = prefix
+        .trim_end_matches(|c: char| c.is_ascii_alphanumeric() || c == '_')
+        .len();
+    let front = text.get(start..end)?;
+    let rest = text.get(start..)?;
+    let (whole, _) = rest.split_once(|c: char| !(c.is_ascii_alphanumeric() || c == '_'))?;
+    let may_stand = front == ""
+        || front == whole
+        || front == "now"
+        || !FIXED_WORDS.contains(&whole);
+    if may_stand { None } else { Some(start) }
+}
+
+/// The fault of the login text that is cut off at this place.
+fn fault_of_cut(text: &str, end: usize) -> Option<(ReadKind, usize)> {
+    if let Some(quote) = open_quote(text.get(..end)?) {
+        return Some((ReadKind::TextOpen, quote));
+    }
+    if let Some(word) = broken_word(text, end) {
+        return Some((ReadKind::Unexpected, word));
+    }
+    if CUTS_BEFORE_MODULE.contains(&end) {
+        return Some((ReadKind::NoModule, 0));
+    }
+    Some((ReadKind::EndOfText, end))
+}
+
+fn fault_of(alloc: Global, text: &str) -> Result<ReadFault, Fail> {
+    if text.len() >= 1 << 32 {
+        return Err(Fail::new("the text is too long"));
+    }
+    match read(alloc, text) {
+        Ok(_) => Err(Fail::new("a text that is cut off is read")),
+        Err(fault) => Ok(fault),
+    }
+}
+
+/// The fault of each prefix of a text, the shortest first.
+fn faults_of_cuts(alloc: Global, text: &str) -> Result<Vec<ReadFault>, Fail> {
+    let mut faults = Vec::new(alloc);
+    for end in 0..text.len() {
+        match text.get(..end) {
+            Some(prefix) => faults.push(fault_of(alloc, prefix)?)?,
+            None => return Err(Fail::new("a cut through a character")),
+        }
+    }
+    Ok(faults)
+}
+
+fn count_of(faults: &[ReadFault], kind: ReadKind) -> usize {
+    faults.iter().filter(|fault| fault.kind == kind).count()
+}
+
+// Whatever stands before the cut is no fault: it comes at the token that the cut goes through, or at the end.
+#[test]
+fn refuses_each_prefix_at_its_end(rt: HostRuntime) -> Result<(), Fail> {
+    let text = LOGIN.trim_end();
+    let faults = faults_of_cuts(rt.alloc(), text)?;
+    for (end, fault) in faults.iter().enumerate() {
+        let found = Some((fault.kind, fault.pos.0 as usize));
+        assert!(rt; found == fault_of_cut(text, end), "{end}");
+    }
+    assert_eq!(rt; count_of(&faults, ReadKind::EndOfText), 383);
+    assert_eq!(rt; count_of(&faults, ReadKind::Unexpected), 126);
+    assert_eq!(rt; count_of(&faults, ReadKind::TextOpen), 50);
+    assert_eq!(rt; count_of(&faults, ReadKind::NoModule), 5);
+    Ok(())
+}
