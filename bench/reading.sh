@@ -4,7 +4,8 @@
 # - the tokens alone: of every kind, one long comment, and marks with no gap;
 # - reading, and then reading and printing: many modules, many statements, long lists (of arguments and of signals), and one fork of
 #   many blocks.
-# The program is built in a folder that is thrown away.
+# The program is built in a folder that is thrown away, over what `rt check` kept in this checkout; where it kept nothing, the crates
+# are proved first, which takes long.
 set -eu
 top=$(cd "$(dirname "$0")/.." && pwd)
 work=$(mktemp -d)
@@ -26,7 +27,7 @@ needs() { # NAME..: these crates of the repository and all below them
 mkdir -p "$work/crates/reads/src"
 for crate in $(needs module_reader module_printer); do
     mkdir "$work/crates/$crate"
-    for folder in src specs proofs; do
+    for folder in src specs proofs out; do
         [ ! -d "$top/crates/$crate/$folder" ] || cp -r "$top/crates/$crate/$folder" "$work/crates/$crate"
     done
     grep -E "^$crate:" "$top/crates.txt" >>"$work/crates.txt"
