@@ -100,59 +100,60 @@ fn a_bag_keeps_its_order(rt: HostRuntime) -> Result<(), Fail> {
     Ok(())
 }
 
+const WITH_A_WORD: [(CombineWord, &str, &str); 20] = [
+    (CombineWord::Plus, "1 2 3", "6"),
+    (CombineWord::Plus, "9223372036854775807 1", "overflowed"),
+    (
+        CombineWord::Plus,
+        "9223372036854775806 1",
+        "9223372036854775807",
+    ),
+    (
+        CombineWord::Plus,
+        "9223372036854775807 9223372036854775807 -9223372036854775807",
+        "9223372036854775807",
+    ),
+    (CombineWord::Plus, "-9223372036854775808 -1", "overflowed"),
+    (
+        CombineWord::Plus,
+        "-9223372036854775807 -1",
+        "-9223372036854775808",
+    ),
+    (
+        CombineWord::Plus,
+        "9223372036854775807 -9223372036854775808",
+        "-1",
+    ),
+    (
+        CombineWord::Plus,
+        "9223372036854775807",
+        "9223372036854775807",
+    ),
+    (
+        CombineWord::Min,
+        "2 -9223372036854775808 3",
+        "-9223372036854775808",
+    ),
+    (CombineWord::Min, "7 7", "7"),
+    (CombineWord::Min, "-4", "-4"),
+    (CombineWord::Max, "-2 -3 -1", "-1"),
+    (
+        CombineWord::Max,
+        "9223372036854775807 0",
+        "9223372036854775807",
+    ),
+    (CombineWord::Max, "-4", "-4"),
+    (CombineWord::And, "true true", "true"),
+    (CombineWord::And, "true true false", "false"),
+    (CombineWord::And, "false", "false"),
+    (CombineWord::Or, "false false", "false"),
+    (CombineWord::Or, "false false true", "true"),
+    (CombineWord::Or, "true", "true"),
+];
+
 #[test]
 fn with_a_word(rt: HostRuntime) -> Result<(), Fail> {
-    let rows = [
-        (CombineWord::Plus, "1 2 3", "6"),
-        (CombineWord::Plus, "9223372036854775807 1", "overflowed"),
-        (
-            CombineWord::Plus,
-            "9223372036854775806 1",
-            "9223372036854775807",
-        ),
-        (
-            CombineWord::Plus,
-            "9223372036854775807 9223372036854775807 -9223372036854775807",
-            "9223372036854775807",
-        ),
-        (CombineWord::Plus, "-9223372036854775808 -1", "overflowed"),
-        (
-            CombineWord::Plus,
-            "-9223372036854775807 -1",
-            "-9223372036854775808",
-        ),
-        (
-            CombineWord::Plus,
-            "9223372036854775807 -9223372036854775808",
-            "-1",
-        ),
-        (
-            CombineWord::Plus,
-            "9223372036854775807",
-            "9223372036854775807",
-        ),
-        (
-            CombineWord::Min,
-            "2 -9223372036854775808 3",
-            "-9223372036854775808",
-        ),
-        (CombineWord::Min, "7 7", "7"),
-        (CombineWord::Min, "-4", "-4"),
-        (CombineWord::Max, "-2 -3 -1", "-1"),
-        (
-            CombineWord::Max,
-            "9223372036854775807 0",
-            "9223372036854775807",
-        ),
-        (CombineWord::Max, "-4", "-4"),
-        (CombineWord::And, "true true", "true"),
-        (CombineWord::And, "true true false", "false"),
-        (CombineWord::And, "false", "false"),
-        (CombineWord::Or, "false false", "false"),
-        (CombineWord::Or, "false false true", "true"),
-        (CombineWord::Or, "true", "true"),
-    ];
-    for (word, literals, want) in rows {
+    for (word, literals, want) in WITH_A_WORD {
         let found = answer(rt.alloc(), literals, Some(word))?;
         assert_eq!(rt; found.as_str(), want, "at {literals}");
     }

@@ -120,57 +120,58 @@ fn is_printed(bytes: Option<Vec<u8>>, text: &str) -> bool {
     }
 }
 
+const EXPRESSIONS: [(&str, &str); 45] = [
+    ("007", " 7"),
+    ("9223372036854775807", " 9223372036854775807"),
+    ("true", " true"),
+    ("false", " false"),
+    ("text", " \"q\\\" b\\\\ l\\n t\\t é\""),
+    ("a", " a"),
+    ("S.now", " S . now"),
+    ("S.pre", " S . pre"),
+    ("S.nowval", " S . nowval"),
+    ("S.preval", " S . preval"),
+    ("a !", " ! a"),
+    ("5 neg", " - 5"),
+    ("a ! !", " ! ( ! a )"),
+    ("1 neg neg", " - ( - 1 )"),
+    ("a neg !", " ! ( - a )"),
+    ("a b * neg", " - ( a * b )"),
+    ("a neg b *", " - a * b"),
+    ("a b neg *", " a * - b"),
+    ("a b + c +", " a + b + c"),
+    ("a b c + +", " a + ( b + c )"),
+    ("a b - c +", " a - b + c"),
+    ("a b c + -", " a - ( b + c )"),
+    ("a b * c /", " a * b / c"),
+    ("a b c % *", " a * ( b % c )"),
+    ("a b c * +", " a + b * c"),
+    ("a b + c *", " ( a + b ) * c"),
+    ("a b + c d - *", " ( a + b ) * ( c - d )"),
+    ("a b % c d / -", " a % b - c / d"),
+    ("a b + c <", " a + b < c"),
+    ("a b <= c +", " ( a <= b ) + c"),
+    ("a b == c !=", " ( a == b ) != c"),
+    ("a b c > ==", " a == ( b > c )"),
+    ("a b >= c && d &&", " a >= b && c && d"),
+    ("a b c && &&", " a && ( b && c )"),
+    ("a b && c <", " ( a && b ) < c"),
+    ("a b || c &&", " ( a || b ) && c"),
+    ("a b && c d && ||", " a && b || c && d"),
+    ("a b || c ||", " a || b || c"),
+    ("a b c || ||", " a || ( b || c )"),
+    ("a b || c d || e ?:", " a || b ? c || d : e"),
+    ("a b c ?: d e ?:", " ( a ? b : c ) ? d : e"),
+    ("a b c d ?: e ?:", " a ? ( b ? c : d ) : e"),
+    ("a b c d e ?: ?:", " a ? b : ( c ? d : e )"),
+    ("a b c ?: d ||", " ( a ? b : c ) || d"),
+    ("a b c ?: !", " ! ( a ? b : c )"),
+];
+
 #[test]
 fn prints_expressions(rt: HostRuntime) {
     let alloc = rt.alloc();
-    let rows = [
-        ("007", " 7"),
-        ("9223372036854775807", " 9223372036854775807"),
-        ("true", " true"),
-        ("false", " false"),
-        ("text", " \"q\\\" b\\\\ l\\n t\\t é\""),
-        ("a", " a"),
-        ("S.now", " S . now"),
-        ("S.pre", " S . pre"),
-        ("S.nowval", " S . nowval"),
-        ("S.preval", " S . preval"),
-        ("a !", " ! a"),
-        ("5 neg", " - 5"),
-        ("a ! !", " ! ( ! a )"),
-        ("1 neg neg", " - ( - 1 )"),
-        ("a neg !", " ! ( - a )"),
-        ("a b * neg", " - ( a * b )"),
-        ("a neg b *", " - a * b"),
-        ("a b neg *", " a * - b"),
-        ("a b + c +", " a + b + c"),
-        ("a b c + +", " a + ( b + c )"),
-        ("a b - c +", " a - b + c"),
-        ("a b c + -", " a - ( b + c )"),
-        ("a b * c /", " a * b / c"),
-        ("a b c % *", " a * ( b % c )"),
-        ("a b c * +", " a + b * c"),
-        ("a b + c *", " ( a + b ) * c"),
-        ("a b + c d - *", " ( a + b ) * ( c - d )"),
-        ("a b % c d / -", " a % b - c / d"),
-        ("a b + c <", " a + b < c"),
-        ("a b <= c +", " ( a <= b ) + c"),
-        ("a b == c !=", " ( a == b ) != c"),
-        ("a b c > ==", " a == ( b > c )"),
-        ("a b >= c && d &&", " a >= b && c && d"),
-        ("a b c && &&", " a && ( b && c )"),
-        ("a b && c <", " ( a && b ) < c"),
-        ("a b || c &&", " ( a || b ) && c"),
-        ("a b && c d && ||", " a && b || c && d"),
-        ("a b || c ||", " a || b || c"),
-        ("a b c || ||", " a || ( b || c )"),
-        ("a b || c d || e ?:", " a || b ? c || d : e"),
-        ("a b c ?: d e ?:", " ( a ? b : c ) ? d : e"),
-        ("a b c d ?: e ?:", " a ? ( b ? c : d ) : e"),
-        ("a b c d e ?: ?:", " a ? b : ( c ? d : e )"),
-        ("a b c ?: d ||", " ( a ? b : c ) || d"),
-        ("a b c ?: !", " ! ( a ? b : c )"),
-    ];
-    for (postfix, text) in rows {
+    for (postfix, text) in EXPRESSIONS {
         assert!(rt;
             is_printed(printed_expression(alloc, postfix), text),
             "{postfix}"
@@ -384,65 +385,66 @@ fn printed_block(alloc: Global, postfix: &str) -> Option<Vec<u8>> {
     Some(printer.into_bytes())
 }
 
+const STATEMENTS: [(&str, &str); 26] = [
+    ("}", " { }"),
+    ("nothing pause halt", " { nothing ; pause ; halt ; }"),
+    ("emit sustain break", " { emit S ; sustain S ; break T ; }"),
+    (
+        "a||b emit() a sustain()",
+        " { emit S ( a || b ) ; sustain S ( a ) ; }",
+    ),
+    ("a once await", " { await ( a ) ; }"),
+    ("a||b count64 await", " { await count ( 64 , a || b ) ; }"),
+    ("a await", " { await immediate ( a ) ; }"),
+    ("pause } a if", " { if ( a ) { pause ; } }"),
+    (
+        "pause } halt } a if-else",
+        " { if ( a ) { pause ; } else { halt ; } }",
+    ),
+    ("} } a if-else", " { if ( a ) { } else { } }"),
+    (
+        "halt } b if } } a if-else",
+        " { if ( a ) { if ( b ) { halt ; } } else { } }",
+    ),
+    ("pause } loop", " { loop { pause ; } }"),
+    ("pause pause } block", " { { pause ; pause ; } }"),
+    ("break } trap", " { trap T { break T ; } }"),
+    ("pause } a once every", " { every ( a ) { pause ; } }"),
+    ("pause } a every", " { every immediate ( a ) { pause ; } }"),
+    (
+        "pause } a once do-every",
+        " { do { pause ; } every ( a ) ; }",
+    ),
+    ("} a count2 do-every", " { do { } every count ( 2 , a ) ; }"),
+    (
+        "pause } a count2 abort",
+        " { abort count ( 2 , a ) { pause ; } }",
+    ),
+    (
+        "pause } a once weakabort",
+        " { weakabort ( a ) { pause ; } }",
+    ),
+    ("pause } a suspend", " { suspend ( a ) { pause ; } }"),
+    (
+        "pause } a suspend-immediate",
+        " { suspend immediate ( a ) { pause ; } }",
+    ),
+    ("pause } fork", " { fork { pause ; } }"),
+    (
+        "pause } } halt } fork",
+        " { fork { pause ; } par { } par { halt ; } }",
+    ),
+    ("pure } signal", " { signal S { } }"),
+    (
+        "pure five least flag pause } signal",
+        " { signal S , S : int = - 5 combine plus , S : int combine min , S : bool = true { pause ; } }",
+    ),
+];
+
 #[test]
 fn prints_statements(rt: HostRuntime) {
     let alloc = rt.alloc();
-    let rows = [
-        ("}", " { }"),
-        ("nothing pause halt", " { nothing ; pause ; halt ; }"),
-        ("emit sustain break", " { emit S ; sustain S ; break T ; }"),
-        (
-            "a||b emit() a sustain()",
-            " { emit S ( a || b ) ; sustain S ( a ) ; }",
-        ),
-        ("a once await", " { await ( a ) ; }"),
-        ("a||b count64 await", " { await count ( 64 , a || b ) ; }"),
-        ("a await", " { await immediate ( a ) ; }"),
-        ("pause } a if", " { if ( a ) { pause ; } }"),
-        (
-            "pause } halt } a if-else",
-            " { if ( a ) { pause ; } else { halt ; } }",
-        ),
-        ("} } a if-else", " { if ( a ) { } else { } }"),
-        (
-            "halt } b if } } a if-else",
-            " { if ( a ) { if ( b ) { halt ; } } else { } }",
-        ),
-        ("pause } loop", " { loop { pause ; } }"),
-        ("pause pause } block", " { { pause ; pause ; } }"),
-        ("break } trap", " { trap T { break T ; } }"),
-        ("pause } a once every", " { every ( a ) { pause ; } }"),
-        ("pause } a every", " { every immediate ( a ) { pause ; } }"),
-        (
-            "pause } a once do-every",
-            " { do { pause ; } every ( a ) ; }",
-        ),
-        ("} a count2 do-every", " { do { } every count ( 2 , a ) ; }"),
-        (
-            "pause } a count2 abort",
-            " { abort count ( 2 , a ) { pause ; } }",
-        ),
-        (
-            "pause } a once weakabort",
-            " { weakabort ( a ) { pause ; } }",
-        ),
-        ("pause } a suspend", " { suspend ( a ) { pause ; } }"),
-        (
-            "pause } a suspend-immediate",
-            " { suspend immediate ( a ) { pause ; } }",
-        ),
-        ("pause } fork", " { fork { pause ; } }"),
-        (
-            "pause } } halt } fork",
-            " { fork { pause ; } par { } par { halt ; } }",
-        ),
-        ("pure } signal", " { signal S { } }"),
-        (
-            "pure five least flag pause } signal",
-            " { signal S , S : int = - 5 combine plus , S : int combine min , S : bool = true { pause ; } }",
-        ),
-    ];
-    for (postfix, text) in rows {
+    for (postfix, text) in STATEMENTS {
         assert!(rt;
             is_printed(printed_block(alloc, postfix), text),
             "{postfix}"
