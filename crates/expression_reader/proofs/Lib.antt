@@ -5,3 +5,4 @@ pub mod Items
 pub mod Ranks
 pub mod Closings
 pub mod written
+pub mod QuotedWords

@@ -9,7 +9,7 @@ ghost use Rattle.expression_reader.specs.Terminals.{is_name};
 use crate::terminal::Terminal;
 use grammar::tokens::Tokens;
 use hh_base::memory::NoMemory;
-use hh_base::name::Name;
+use hh_base::name::{Name, NameFault};
 use hh_base::text::Text;
 use module_token::token::{Token, TokenKind};
 use module_token::tokens::{token_text, unquote};
@@ -51,10 +51,11 @@ impl<'a> Words<'a> {
         ensures { IfOk result (λ n. n ≡ text_of self.now) }
     {
         match self.rest {
-            [] => Err(NoMemory),
+            [] => unreachable!(),
             [token, ..] => match Name::read(alloc, token_text(self.text, *token)) {
                 Ok(name) => Ok(name),
-                Err(_) => Err(NoMemory),
+                Err(NameFault::NoMemory) => Err(NoMemory),
+                Err(NameFault::NotName | NameFault::NameLong) => unreachable!(),
             },
         }
     }
@@ -65,10 +66,10 @@ impl<'a> Words<'a> {
         ensures { IfOk result (λ t. t ≡ text_of self.now) }
     {
         match self.rest {
-            [] => Err(NoMemory),
+            [] => unreachable!(),
             [token, ..] => match token.what {
                 TokenKind::Quoted => unquote(alloc, self.text, *token),
-                _ => Err(NoMemory),
+                _ => unreachable!(),
             },
         }
     }

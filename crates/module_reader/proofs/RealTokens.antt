@@ -1,7 +1,5 @@
 -- The tokens of a text keep what the reader and the tree rely on: names are names, and quoted texts are text values.
-use Rattle.std.proofs.Common.{◌≡◌, ℕ, Bool, true, false, cond, List, map, Option, refl, sym, subst}
-use Rattle.std.specs.Prelude.{codes}
-use Rattle.std.specs.Str.{bytes_eq}
+use Rattle.std.proofs.Common.{◌≡◌, ℕ, Bool, true, false, List, map, Option, refl, sym, subst}
 use Rattle.std.proofs.lemmas.Simd.{map-map}
 use Rattle.hh_base.specs.Text.{IsText}
 use Rattle.module_token.specs.declared.fault.TokenFault.{TokenFault}
@@ -13,25 +11,12 @@ use Rattle.module_token.specs.Tokens as token
 use Rattle.module_token.specs.Tokens.{Reads, ended, refused, passed, taken}
 use Rattle.module_token.specs.Place as place
 use Rattle.module_token.proofs.Unquoted.{value_of_quoted}
-use Rattle.expression_reader.specs.declared.terminal.Terminal.{Terminal}
-use Rattle.expression_reader.specs.declared.terminal.Terminal.TheVariants as t
 use Rattle.expression_reader.specs.Terminals.{word}
 use Rattle.expression_reader.specs.Rules.{is_quoted}
 use Rattle.expression_reader.specs.Cursor as cursor
 use Rattle.expression_reader.specs.Lawful.{IsLawful, Lawful}
+use Rattle.expression_reader.proofs.QuotedWords.{word_plain}
 use Rattle.module_reader.specs.Reading.{to_grammar}
-
-cond_plain : (b : Bool) (x y : Terminal) → is_quoted x ≡ false → is_quoted y ≡ false → is_quoted (cond b x y) ≡ false
-cond_plain true x y hx hy = hx
-cond_plain false x y hx hy = hy
-
--- no word is a quoted text
-word_plain : (text : List ℕ) → is_quoted (word text) ≡ false
-unfolding word
-word_plain text =
-    cond_plain (bytes_eq text (codes "now")) t.Now _ refl (cond_plain (bytes_eq text (codes "pre")) t.Pre _ refl (cond_plain (bytes_eq text (codes "nowval")) t.NowVal _ refl
-    (cond_plain (bytes_eq text (codes "preval")) t.PreVal _ refl (cond_plain (bytes_eq text (codes "plus")) t.Plus _ refl (cond_plain (bytes_eq text (codes "min")) t.Min _ refl
-    (cond_plain (bytes_eq text (codes "max")) t.Max _ refl (cond_plain (bytes_eq text (codes "and")) t.And _ refl (cond_plain (bytes_eq text (codes "or")) t.Or t.Word refl refl))))))))
 
 not_both : {X : Type 0} (b : Bool) → b ≡ false → b ≡ true → X
 not_both b e h = absurd (let no : ⊥ = cc in no)

@@ -73,25 +73,35 @@ fn repeated(
     Ok(text)
 }
 
+const BLANK: [&str; 13] = [
+    "",
+    " \t\r\n",
+    "//",
+    "// a",
+    "//\r",
+    "/**/",
+    "/***/",
+    "/*/ */",
+    "/* /* */",
+    "/* // */",
+    "// /*",
+    "/*\n*//**/",
+    "/* é */",
+];
+
+const OPEN_COMMENTS: [(&str, u32); 6] = [
+    ("/*/", 0),
+    ("/*", 0),
+    ("/**", 0),
+    ("x /* *", 2),
+    ("/**/é/*", 6),
+    ("/* a\n", 0),
+];
+
 #[test]
 fn gaps(rt: HostRuntime) -> Result<(), Fail> {
     let alloc = rt.alloc();
-    let empty = [
-        "",
-        " \t\r\n",
-        "//",
-        "// a",
-        "//\r",
-        "/**/",
-        "/***/",
-        "/*/ */",
-        "/* /* */",
-        "/* // */",
-        "// /*",
-        "/*\n*//**/",
-        "/* é */",
-    ];
-    for text in empty {
+    for text in BLANK {
         assert!(rt; gives(alloc, text, &[])?);
     }
     let word = TokenKind::Word;
@@ -116,14 +126,7 @@ fn gaps(rt: HostRuntime) -> Result<(), Fail> {
             ]
         )?
     );
-    for (text, pos) in [
-        ("/*/", 0),
-        ("/*", 0),
-        ("/**", 0),
-        ("x /* *", 2),
-        ("/**/é/*", 6),
-        ("/* a\n", 0),
-    ] {
+    for (text, pos) in OPEN_COMMENTS {
         assert!(rt; refuses(alloc, text, ReadKind::CommentOpen, pos)?);
     }
     Ok(())
@@ -246,20 +249,21 @@ fn words(rt: HostRuntime) -> Result<(), Fail> {
     Ok(())
 }
 
+const NUMBERS: [(&str, u64); 5] = [
+    ("0", 0),
+    ("007", 7),
+    ("9223372036854775807", 9_223_372_036_854_775_807),
+    ("9223372036854775808", 9_223_372_036_854_775_808),
+    (
+        "00000000000000000000000009223372036854775808",
+        9_223_372_036_854_775_808,
+    ),
+];
+
 #[test]
 fn numbers(rt: HostRuntime) -> Result<(), Fail> {
     let alloc = rt.alloc();
-    let all = [
-        ("0", 0),
-        ("007", 7),
-        ("9223372036854775807", 9_223_372_036_854_775_807),
-        ("9223372036854775808", 9_223_372_036_854_775_808),
-        (
-            "00000000000000000000000009223372036854775808",
-            9_223_372_036_854_775_808,
-        ),
-    ];
-    for (text, value) in all {
+    for (text, value) in NUMBERS {
         assert!(rt; is_one(alloc, text, TokenKind::Number(value))?);
     }
     assert!(rt;
@@ -416,6 +420,35 @@ const MARKS: [(&str, Punct); 24] = [
     ("||", Punct::Or),
 ];
 
+const BAD_CHARACTERS: [(&str, u32); 26] = [
+    ("&", 0),
+    ("|", 0),
+    ("&|", 0),
+    ("&&&", 2),
+    ("||\n|", 3),
+    ("a&b", 1),
+    ("@", 0),
+    ("$", 0),
+    ("#", 0),
+    ("'", 0),
+    ("`", 0),
+    ("^", 0),
+    ("~", 0),
+    ("[", 0),
+    ("]", 0),
+    ("\\", 0),
+    ("\u{0}", 0),
+    ("\u{b}", 0),
+    ("\u{7f}", 0),
+    ("\u{ad}", 0),
+    ("a\u{ad}", 1),
+    ("\u{feff}module", 0),
+    ("é\u{1f600}", 2),
+    ("\u{a0}", 0),
+    ("\u{2028}", 0),
+    ("\u{301}", 0),
+];
+
 #[test]
 fn marks(rt: HostRuntime) -> Result<(), Fail> {
     let alloc = rt.alloc();
@@ -449,35 +482,7 @@ fn marks(rt: HostRuntime) -> Result<(), Fail> {
             &[(0, 1, TokenKind::Punct(Punct::Less)), (2, 3, equal)]
         )?
     );
-    let bad = [
-        ("&", 0),
-        ("|", 0),
-        ("&|", 0),
-        ("&&&", 2),
-        ("||\n|", 3),
-        ("a&b", 1),
-        ("@", 0),
-        ("$", 0),
-        ("#", 0),
-        ("'", 0),
-        ("`", 0),
-        ("^", 0),
-        ("~", 0),
-        ("[", 0),
-        ("]", 0),
-        ("\\", 0),
-        ("\u{0}", 0),
-        ("\u{b}", 0),
-        ("\u{7f}", 0),
-        ("\u{ad}", 0),
-        ("a\u{ad}", 1),
-        ("\u{feff}module", 0),
-        ("é\u{1f600}", 2),
-        ("\u{a0}", 0),
-        ("\u{2028}", 0),
-        ("\u{301}", 0),
-    ];
-    for (text, pos) in bad {
+    for (text, pos) in BAD_CHARACTERS {
         assert!(rt; refuses(alloc, text, ReadKind::BadChar, pos)?);
     }
     Ok(())
