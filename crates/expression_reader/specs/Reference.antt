@@ -8,8 +8,8 @@ use Rattle.host_expr.specs.declared.expr.Expr.{Expr}
 use Rattle.host_expr.specs.declared.expr.ExprNode.TheVariants as x
 use Rattle.host_expr.specs.declared.expr.Op.TheVariants as op
 use Rattle.host_expr.specs.declared.expr.Rel.TheVariants as rel
-use Rattle.hh_term.specs.declared.source.NameAt.{NameAt}
-use Rattle.hh_term.specs.declared.source.ExprAt.{ExprAt}
+use Rattle.module_tree.specs.declared.source.NameAt.{NameAt}
+use Rattle.module_tree.specs.declared.source.ExprAt.{ExprAt}
 use Rattle.grammar.specs.Fault.{Fault, OutOfRange}
 use Rattle.grammar.specs.Parser as parser
 use Rattle.grammar.specs.Parser.{Input, ◌>>=◌, ◌>>◌, pure, either, many, closed, take}

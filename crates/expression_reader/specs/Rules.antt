@@ -9,8 +9,8 @@ use Rattle.host_expr.specs.declared.expr.Expr.{Expr}
 use Rattle.host_expr.specs.declared.expr.ExprNode.TheVariants as leaf
 use Rattle.host_expr.specs.declared.expr.Op.TheVariants as op
 use Rattle.host_expr.specs.declared.expr.Rel.TheVariants as rel
-use Rattle.hh_term.specs.declared.source.NameAt.{NameAt}
-use Rattle.hh_term.specs.declared.source.ExprAt.{ExprAt}
+use Rattle.module_tree.specs.declared.source.NameAt.{NameAt}
+use Rattle.module_tree.specs.declared.source.ExprAt.{ExprAt}
 use Rattle.grammar.specs.Language as language
 use Rattle.grammar.specs.Language.{◌>>=◌, ◌>>◌, pure, ◌or◌, many, nothing}
 use Rattle.expression_reader.specs.declared.terminal.Terminal.{Terminal}

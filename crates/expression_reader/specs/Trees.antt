@@ -4,8 +4,8 @@ use Rattle.hh_base.specs.declared.value.Pos.{Pos}
 use Rattle.host_expr.specs.declared.expr.Expr.{Expr, roll-Expr}
 use Rattle.host_expr.specs.declared.expr.ExprNode.{ExprNode}
 use Rattle.host_expr.specs.declared.expr.ExprNode.TheVariants as x
-use Rattle.hh_term.specs.declared.source.NameAt.{NameAt}
-use Rattle.hh_term.specs.declared.source.ExprAt.{ExprAt}
+use Rattle.module_tree.specs.declared.source.NameAt.{NameAt}
+use Rattle.module_tree.specs.declared.source.ExprAt.{ExprAt}
 use Rattle.expression_reader.specs.declared.operator.Operator.{Operator}
 use Rattle.expression_reader.specs.declared.operator.Operator.TheVariants as o
 use Rattle.expression_reader.specs.declared.operator.Access.{Access}

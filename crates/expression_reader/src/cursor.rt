@@ -17,7 +17,7 @@ use grammar::cursor::Cursor;
 use hh_base::name::Name;
 use hh_base::text::Text;
 use hh_base::value::Pos;
-use hh_term::source::NameAt;
+use module_tree::source::NameAt;
 use module_token::keyword::Keyword;
 use module_token::punct::Punct;
 use module_token::token::Token;

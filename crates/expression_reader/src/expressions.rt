@@ -11,7 +11,7 @@ use crate::operator::{Access, Level, Operator, choose, join, node};
 use crate::terminal::Terminal;
 use hh_base::name::Name;
 use hh_base::value::Pos;
-use hh_term::source::ExprAt;
+use module_tree::source::ExprAt;
 use host_expr::expr::{Expr, ExprNode, Op, Rel};
 use module_token::keyword::Keyword;
 use module_token::punct::Punct;

@@ -22,6 +22,15 @@ pub enum Kind {
     Text,
 }
 
+/// Who emits a signal: the environment, the program, both, or the program behind its interface.
+#[derive(Clone, Copy, PartialEq, Eq, Debug)]
+pub enum Dir {
+    Input,
+    Output,
+    Both,
+    Local,
+}
+
 /// A value of a signal. `Unit` is the one value of a pure signal.
 #[derive(Drop)]
 pub enum Value {

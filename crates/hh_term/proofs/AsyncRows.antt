@@ -8,7 +8,7 @@ use Rattle.hh_base.specs.declared.value.FaultKind.TheVariants.{Divide, Overflow}
 use Rattle.hh_base.specs.declared.item.Item.{Item}
 use Rattle.host_expr.specs.declared.expr.Op.TheVariants.{Add, Div}
 use Rattle.host_expr.specs.declared.expr.Rel.TheVariants.{Eq}
-use Rattle.hh_term.specs.declared.program.Dir.TheVariants as dir
+use Rattle.hh_base.specs.declared.value.Dir.TheVariants as dir
 use Rattle.host_expr.specs.Expression.{Expression, Int, Now, Pre, PreVal, Arg, Arith, Compare}
 use Rattle.hh_term.specs.Statement.{Nothing, Pause, Emit, If, Suspend, Seq, Par, Loop, Trap, Exit, Local, Async}
 use Rattle.hh_term.specs.Selection.{Selection, AtPause, AtAsync, First, Second, Both, Inside, Control, Fresh, At}

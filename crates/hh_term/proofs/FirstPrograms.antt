@@ -4,8 +4,8 @@ use Rattle.std.specs.Prelude.{◌≢◌, ◌-◌}
 use Rattle.std.proofs.Math.Seq.{take-length, drop-length}
 use Rattle.std.specs.List.{AllByRecursion, range_with_len}
 use Rattle.hh_base.specs.Value.{kind_of}
-use Rattle.hh_term.specs.declared.program.Dir.{Dir}
-use Rattle.hh_term.specs.declared.program.Dir.TheVariants as dir
+use Rattle.hh_base.specs.declared.value.Dir.{Dir}
+use Rattle.hh_base.specs.declared.value.Dir.TheVariants as dir
 use Rattle.hh_term.specs.declared.program.SignalDecl.{SignalDecl}
 use Rattle.hh_term.specs.Kernel.{Kernel}
 use Rattle.hh_term.specs.FirstLanguage.{IsFirstLanguage, IsFirstSignal, IsOneWay}

@@ -6,7 +6,7 @@ use Rattle.std.specs.List.{AllByRecursion, list_any}
 use Rattle.hh_base.specs.declared.value.Kind.TheVariants as kind
 use Rattle.host_expr.specs.Expression.{Int, Flag, Text, Now, Pre, NowVal, PreVal, Arg, Not, Neg, Arith, Compare, And, Or, Choose}
 use Rattle.host_expr.specs.Kinds.{status_kind}
-use Rattle.hh_term.specs.declared.program.Dir.TheVariants as dir
+use Rattle.hh_base.specs.declared.value.Dir.TheVariants as dir
 use Rattle.hh_term.specs.declared.program.SignalDecl.{SignalDecl}
 use Rattle.hh_term.specs.Statement.{Statement, Nothing, Pause, Emit, If, Suspend, Seq, Par, Loop, Trap, Exit, Local, Async}
 use Rattle.hh_term.specs.Kernel.{Kernel}

@@ -5,8 +5,8 @@ use Rattle.std.specs.List.{AllByRecursion}
 use Rattle.hh_base.specs.declared.value.Kind.TheVariants as kind
 use Rattle.hh_base.specs.declared.value.Value.TheVariants as value
 use Rattle.host_expr.specs.Expression.{Now}
-use Rattle.hh_term.specs.declared.program.Dir.{Dir}
-use Rattle.hh_term.specs.declared.program.Dir.TheVariants as dir
+use Rattle.hh_base.specs.declared.value.Dir.{Dir}
+use Rattle.hh_base.specs.declared.value.Dir.TheVariants as dir
 use Rattle.hh_term.specs.declared.program.SignalDecl.{SignalDecl}
 use Rattle.hh_term.specs.Statement.{Statement, Nothing, Pause, Emit, If, Seq}
 use Rattle.hh_term.specs.Kernel.{Kernel}

@@ -1,7 +1,7 @@
 -- What every program keeps: the rules on its declarations, its statement and their limits. (This project's own.)
 use Rattle.std.specs.Prelude.{◌≡◌, ◌≢◌, ◌-◌, ◌≤◌, IsSome, List, [], length, take, drop}
 use Rattle.std.specs.List.{AllByRecursion, range_with_len}
-use Rattle.hh_term.specs.declared.program.Dir.TheVariants as dir
+use Rattle.hh_base.specs.declared.value.Dir.TheVariants as dir
 use Rattle.hh_term.specs.declared.program.SignalDecl.{SignalDecl}
 use Rattle.hh_term.specs.Kernel.{Kernel}
 use Rattle.hh_term.specs.Pairs.{EachPair}

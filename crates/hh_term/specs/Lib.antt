@@ -21,9 +21,3 @@ pub mod IsProgram
 pub mod Marks
 pub mod ControlIn
 pub mod Entering
-pub mod SourceWords
-pub mod Parentheses
-pub mod SourceExpressions
-pub mod SourceNesting
-pub mod SourceForms
-pub mod Source

@@ -3,10 +3,8 @@
 
 pub mod codes;
 pub mod laws;
-pub mod level;
 pub mod mark;
 pub mod program;
-pub mod source;
 pub mod term;
 #[cfg(test)]
 mod tests;

@@ -7,19 +7,10 @@ ghost use Rattle.hh_term.specs.IsProgram.{IsProgram};
 use crate::term::Term;
 use hh_base::name::Name;
 use hh_base::text::Text;
-use hh_base::value::{CombineWord, Kind, NoMemory, Pos, Value};
+use hh_base::value::{CombineWord, Dir, Kind, NoMemory, Pos, Value};
 use host_expr::expr::Expr;
 use std::alloc::Global;
 use std::marker::Model;
-
-/// Who emits a signal: the environment, the program, both, or the program behind its interface.
-#[derive(Clone, Copy, PartialEq, Eq, Debug)]
-pub enum Dir {
-    Input,
-    Output,
-    Both,
-    Local,
-}
 
 /// A signal. `first` is its value before any emission.
 #[derive(Drop)]

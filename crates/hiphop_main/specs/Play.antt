@@ -6,7 +6,7 @@ use Rattle.hh_base.specs.declared.value.Value.{Value}
 use Rattle.hh_base.specs.declared.value.Value.TheVariants as value
 use Rattle.hh_io.specs.Bytes.{Takes, AppendsPrefix}
 use Rattle.hh_io.specs.Faults.{Rises}
-use Rattle.hh_term.specs.declared.program.Dir.TheVariants as dir
+use Rattle.hh_base.specs.declared.value.Dir.TheVariants as dir
 use Rattle.hh_term.specs.FirstLanguage.{HasDirection}
 use Rattle.hh_term.specs.Kernel.{Kernel}
 use Rattle.reactor.specs.declared.event.Input.{Input}

@@ -5,7 +5,7 @@ ghost use Rattle.std.specs.List.{AllByRecursion};
 ghost use Rattle.std.specs.Io.KnownBytes.{Appends};
 ghost use Rattle.hh_io.specs.Bytes.{AppendsPrefix};
 ghost use Rattle.hh_io.specs.Faults.{Rises};
-ghost use Rattle.hh_term.specs.declared.program.Dir.TheVariants.{Input};
+ghost use Rattle.hh_base.specs.declared.value.Dir.TheVariants.{Input};
 ghost use Rattle.hh_term.specs.ControlIn.{control_in};
 ghost use Rattle.hh_term.specs.FirstLanguage.{HasDirection, IsFirstLanguage};
 ghost use Rattle.hh_term.specs.Marks.{IsControlOf};

@@ -6,7 +6,7 @@ use Rattle.unicode_ident.specs.Ident.{is_xid_start}
 use Rattle.ucd_derived.specs.XidStartRanges.{xid_start_ranges}
 use Rattle.ucd_table.specs.Rows.{in_ranges}
 use Rattle.hh_base.specs.Keyword.{is_keyword}
-use Rattle.hh_term.specs.SourceWords.{is_written_name}
+use Rattle.module_tree.specs.SourceWords.{is_written_name}
 
 pub m_is_written : is_written_name (codes "M") ≡ true
 unfolding is_utf8 encode is_keyword chars is_xid_start in_ranges xid_start_ranges

@@ -12,7 +12,7 @@ use Rattle.host_expr.specs.declared.expr.Rel.TheVariants as rel
 use Rattle.host_expr.specs.declared.expr.Expr.{Expr}
 use Rattle.host_expr.specs.declared.expr.ExprNode.{ExprNode}
 use Rattle.host_expr.specs.declared.expr.ExprNode.TheOpen as e
-use Rattle.hh_term.specs.Parentheses.{Levelled, levelled, levelled_node}
+use Rattle.module_tree.specs.Parentheses.{Levelled, levelled, levelled_node}
 
 -- the texts of tokens, in order
 abbrev pub Tokens : Type 0

@@ -2,7 +2,7 @@
 -- tokens. This project's own.
 use Rattle.std.specs.Prelude.{ℕ, List, [], ◌∷◌, ◌++◌}
 use Rattle.std.specs.List.{flat_map}
-use Rattle.hh_term.specs.declared.source.Top.{Top}
+use Rattle.module_tree.specs.declared.source.Top.{Top}
 use Rattle.module_printer.specs.ExpressionTokens.{Tokens}
 use Rattle.module_printer.specs.SourceTokens.{tokens_of_top}
 

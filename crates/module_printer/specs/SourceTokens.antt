@@ -8,29 +8,29 @@ use Rattle.hh_base.specs.declared.value.Kind.TheVariants as kind
 use Rattle.hh_base.specs.declared.value.Value.{Value}
 use Rattle.hh_base.specs.declared.value.CombineWord.{CombineWord}
 use Rattle.hh_base.specs.declared.value.CombineWord.TheVariants as combine
-use Rattle.hh_term.specs.declared.program.Dir.{Dir}
-use Rattle.hh_term.specs.declared.program.Dir.TheVariants as dir
-use Rattle.hh_term.specs.declared.source.NameAt.{NameAt}
-use Rattle.hh_term.specs.declared.source.ExprAt.{ExprAt}
-use Rattle.hh_term.specs.declared.source.SigNode.{SigNode}
-use Rattle.hh_term.specs.declared.source.DeclNode.{DeclNode}
-use Rattle.hh_term.specs.declared.source.ParamNode.{ParamNode}
-use Rattle.hh_term.specs.declared.source.Binding.{Binding}
-use Rattle.hh_term.specs.declared.source.AsyncNode.{AsyncNode}
-use Rattle.hh_term.specs.declared.source.BodyNode.{BodyNode}
-use Rattle.hh_term.specs.declared.source.HostNode.{HostNode}
-use Rattle.hh_term.specs.declared.source.ModuleNode.{ModuleNode}
-use Rattle.hh_term.specs.declared.source.BlockNode.{BlockNode}
-use Rattle.hh_term.specs.declared.source.StatementNode.{StatementNode}
-use Rattle.hh_term.specs.declared.source.Statement.{Statement}
-use Rattle.hh_term.specs.declared.source.Statement.TheOpen as s
-use Rattle.hh_term.specs.declared.source.Statement.TheFolds.{fold-Statement, fold-StatementNode, fold-BlockNode}
-use Rattle.hh_term.specs.declared.source.Plain.{Plain}
-use Rattle.hh_term.specs.declared.source.Plain.TheVariants as plain
-use Rattle.hh_term.specs.declared.source.Delay.{Delay}
-use Rattle.hh_term.specs.declared.source.Delay.TheVariants as delay
-use Rattle.hh_term.specs.declared.source.Top.{Top}
-use Rattle.hh_term.specs.declared.source.Top.TheVariants as top
+use Rattle.hh_base.specs.declared.value.Dir.{Dir}
+use Rattle.hh_base.specs.declared.value.Dir.TheVariants as dir
+use Rattle.module_tree.specs.declared.source.NameAt.{NameAt}
+use Rattle.module_tree.specs.declared.source.ExprAt.{ExprAt}
+use Rattle.module_tree.specs.declared.source.SigNode.{SigNode}
+use Rattle.module_tree.specs.declared.source.DeclNode.{DeclNode}
+use Rattle.module_tree.specs.declared.source.ParamNode.{ParamNode}
+use Rattle.module_tree.specs.declared.source.Binding.{Binding}
+use Rattle.module_tree.specs.declared.source.AsyncNode.{AsyncNode}
+use Rattle.module_tree.specs.declared.source.BodyNode.{BodyNode}
+use Rattle.module_tree.specs.declared.source.HostNode.{HostNode}
+use Rattle.module_tree.specs.declared.source.ModuleNode.{ModuleNode}
+use Rattle.module_tree.specs.declared.source.BlockNode.{BlockNode}
+use Rattle.module_tree.specs.declared.source.StatementNode.{StatementNode}
+use Rattle.module_tree.specs.declared.source.Statement.{Statement}
+use Rattle.module_tree.specs.declared.source.Statement.TheOpen as s
+use Rattle.module_tree.specs.declared.source.Statement.TheFolds.{fold-Statement, fold-StatementNode, fold-BlockNode}
+use Rattle.module_tree.specs.declared.source.Plain.{Plain}
+use Rattle.module_tree.specs.declared.source.Plain.TheVariants as plain
+use Rattle.module_tree.specs.declared.source.Delay.{Delay}
+use Rattle.module_tree.specs.declared.source.Delay.TheVariants as delay
+use Rattle.module_tree.specs.declared.source.Top.{Top}
+use Rattle.module_tree.specs.declared.source.Top.TheVariants as top
 use Rattle.module_printer.specs.ExpressionTokens.{Tokens, in_parentheses, tokens_of_expression, tokens_of_value}
 
 -- one after the other

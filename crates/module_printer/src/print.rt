@@ -15,7 +15,7 @@ mod tests;
 use crate::print::printer::{Printer, Tokens};
 use hh_base::memory::NoMemory;
 use hh_base::name::Name;
-use hh_term::source::{BodyNode, ExprAt, HostNode, ModuleNode, Modules, Top};
+use module_tree::source::{BodyNode, ExprAt, HostNode, ModuleNode, Modules, Top};
 use std::alloc::Global;
 
 impl Printer {

@@ -1,7 +1,7 @@
 -- Where a bracket is not closed behind what was read in it, its rule refuses there.
 use Rattle.std.proofs.Common.{◌≡◌, ◌≢◌, ℕ, ◌-◌, List, Some, Ok, Err, refl, ◌∙◌}
 use Rattle.module_token.specs.declared.punct.Punct.TheVariants as k
-use Rattle.hh_term.specs.declared.source.StatementNode.{StatementNode}
+use Rattle.module_tree.specs.declared.source.StatementNode.{StatementNode}
 use Rattle.grammar.specs.Fault.{Refusal}
 use Rattle.grammar.specs.Parser.{Input, many, opened}
 use Rattle.grammar.proofs.Steps.{room_left}

@@ -9,8 +9,8 @@ use Rattle.hh_base.specs.declared.value.CombineWord.TheVariants as combine
 use Rattle.module_token.specs.declared.keyword.Keyword.{Keyword}
 use Rattle.module_token.specs.declared.keyword.Keyword.TheVariants as w
 use Rattle.module_token.specs.declared.punct.Punct.TheVariants as k
-use Rattle.hh_term.specs.declared.program.Dir.{Dir}
-use Rattle.hh_term.specs.declared.program.Dir.TheVariants as dir
+use Rattle.hh_base.specs.declared.value.Dir.{Dir}
+use Rattle.hh_base.specs.declared.value.Dir.TheVariants as dir
 use Rattle.grammar.specs.Tokens.{is, is_plain, never}
 use Rattle.grammar.specs.Fault.{Unexpected}
 use Rattle.grammar.specs.Language as l

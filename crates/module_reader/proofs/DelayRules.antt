@@ -3,8 +3,8 @@ use Rattle.std.proofs.Common.{ℕ, Bool, false, refl, arith}
 use Rattle.std.specs.Prelude.{◌||◌}
 use Rattle.module_token.specs.declared.keyword.Keyword.TheVariants as w
 use Rattle.module_token.specs.declared.punct.Punct.TheVariants as k
-use Rattle.hh_term.specs.declared.source.Delay.TheVariants as delay
-use Rattle.hh_term.specs.declared.source.Plain.TheVariants as plain
+use Rattle.module_tree.specs.declared.source.Delay.TheVariants as delay
+use Rattle.module_tree.specs.declared.source.Plain.TheVariants as plain
 use Rattle.grammar.specs.Tokens.{never}
 use Rattle.grammar.specs.Fault.{OutOfRange}
 use Rattle.grammar.proofs.Bundle.{Sample}

@@ -3,8 +3,8 @@ use Rattle.std.proofs.Common.{◌≡◌, ◌≢◌, ℕ, true, false, List, map,
 use Rattle.module_token.specs.declared.fault.ReadKind.TheVariants as k
 use Rattle.module_token.specs.Tokens as token
 use Rattle.module_token.specs.Tokens.{Tokens}
-use Rattle.hh_term.specs.declared.source.Top.{Top}
-use Rattle.hh_term.specs.Source.{is_source}
+use Rattle.module_tree.specs.declared.source.Top.{Top}
+use Rattle.module_tree.specs.Source.{is_source}
 use Rattle.grammar.specs.Tokens.{Tok}
 use Rattle.grammar.specs.Fault.{Fault, Refusal, Unexpected, EndOfText, Deep, Large, OutOfRange}
 use Rattle.grammar.specs.Parser.{Exact, start, whole}

@@ -4,10 +4,10 @@ use Rattle.std.specs.Prelude.{◌||◌}
 use Rattle.module_token.specs.declared.keyword.Keyword.{Keyword}
 use Rattle.module_token.specs.declared.keyword.Keyword.TheVariants as w
 use Rattle.module_token.specs.declared.punct.Punct.TheVariants as k
-use Rattle.hh_term.specs.declared.source.BlockNode.{BlockNode}
-use Rattle.hh_term.specs.declared.source.StatementNode.{StatementNode}
-use Rattle.hh_term.specs.declared.source.Statement.{Statement}
-use Rattle.hh_term.specs.declared.source.Statement.TheVariants as s
+use Rattle.module_tree.specs.declared.source.BlockNode.{BlockNode}
+use Rattle.module_tree.specs.declared.source.StatementNode.{StatementNode}
+use Rattle.module_tree.specs.declared.source.Statement.{Statement}
+use Rattle.module_tree.specs.declared.source.Statement.TheVariants as s
 use Rattle.grammar.specs.Tokens.{never}
 use Rattle.grammar.specs.Language as l
 use Rattle.grammar.specs.Parser.{Input, kind, either, sees, too_deep, opened}

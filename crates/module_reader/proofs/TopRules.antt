@@ -2,7 +2,7 @@
 use Rattle.std.proofs.Common.{ℕ, suc, true, false, refl}
 use Rattle.module_token.specs.declared.keyword.Keyword.TheVariants as w
 use Rattle.module_token.specs.declared.punct.Punct.TheVariants as k
-use Rattle.hh_term.specs.declared.source.Top.TheVariants as top
+use Rattle.module_tree.specs.declared.source.Top.TheVariants as top
 use Rattle.grammar.specs.Tokens.{never}
 use Rattle.grammar.proofs.Sequences.{good_seq, good_then, good_pure}
 use Rattle.grammar.proofs.OneToken.{good_open, good_close}

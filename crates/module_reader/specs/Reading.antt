@@ -4,7 +4,7 @@ use Rattle.module_token.specs.declared.fault.ReadKind.{ReadKind}
 use Rattle.module_token.specs.declared.fault.ReadKind.TheVariants as k
 use Rattle.module_token.specs.Tokens as token
 use Rattle.module_token.specs.Tokens.{Tokens, FirstTokenFault}
-use Rattle.hh_term.specs.declared.source.Top.{Top}
+use Rattle.module_tree.specs.declared.source.Top.{Top}
 use Rattle.grammar.specs.Tokens.{Tok}
 use Rattle.grammar.specs.Fault.{Fault, Unexpected, EndOfText, Deep, Large, OutOfRange}
 use Rattle.grammar.specs.Parser.{start, whole}

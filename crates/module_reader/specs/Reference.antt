@@ -9,24 +9,24 @@ use Rattle.hh_base.specs.declared.value.CombineWord.TheVariants as combine
 use Rattle.module_token.specs.declared.keyword.Keyword.{Keyword}
 use Rattle.module_token.specs.declared.keyword.Keyword.TheVariants as w
 use Rattle.module_token.specs.declared.punct.Punct.TheVariants as p
-use Rattle.hh_term.specs.declared.program.Dir.{Dir}
-use Rattle.hh_term.specs.declared.program.Dir.TheVariants as dir
-use Rattle.hh_term.specs.declared.source.NameAt.{NameAt}
-use Rattle.hh_term.specs.declared.source.ExprAt.{ExprAt}
-use Rattle.hh_term.specs.declared.source.ParamNode.{ParamNode}
-use Rattle.hh_term.specs.declared.source.SigNode.{SigNode}
-use Rattle.hh_term.specs.declared.source.DeclNode.{DeclNode}
-use Rattle.hh_term.specs.declared.source.BlockNode.{BlockNode}
-use Rattle.hh_term.specs.declared.source.StatementNode.{StatementNode}
-use Rattle.hh_term.specs.declared.source.Statement.{Statement}
-use Rattle.hh_term.specs.declared.source.Statement.TheVariants as s
-use Rattle.hh_term.specs.declared.source.Delay.{Delay}
-use Rattle.hh_term.specs.declared.source.Delay.TheVariants as delay
-use Rattle.hh_term.specs.declared.source.Plain.{Plain}
-use Rattle.hh_term.specs.declared.source.Plain.TheVariants as plain
-use Rattle.hh_term.specs.declared.source.Binding.{Binding}
-use Rattle.hh_term.specs.declared.source.Top.{Top}
-use Rattle.hh_term.specs.declared.source.Top.TheVariants as top
+use Rattle.hh_base.specs.declared.value.Dir.{Dir}
+use Rattle.hh_base.specs.declared.value.Dir.TheVariants as dir
+use Rattle.module_tree.specs.declared.source.NameAt.{NameAt}
+use Rattle.module_tree.specs.declared.source.ExprAt.{ExprAt}
+use Rattle.module_tree.specs.declared.source.ParamNode.{ParamNode}
+use Rattle.module_tree.specs.declared.source.SigNode.{SigNode}
+use Rattle.module_tree.specs.declared.source.DeclNode.{DeclNode}
+use Rattle.module_tree.specs.declared.source.BlockNode.{BlockNode}
+use Rattle.module_tree.specs.declared.source.StatementNode.{StatementNode}
+use Rattle.module_tree.specs.declared.source.Statement.{Statement}
+use Rattle.module_tree.specs.declared.source.Statement.TheVariants as s
+use Rattle.module_tree.specs.declared.source.Delay.{Delay}
+use Rattle.module_tree.specs.declared.source.Delay.TheVariants as delay
+use Rattle.module_tree.specs.declared.source.Plain.{Plain}
+use Rattle.module_tree.specs.declared.source.Plain.TheVariants as plain
+use Rattle.module_tree.specs.declared.source.Binding.{Binding}
+use Rattle.module_tree.specs.declared.source.Top.{Top}
+use Rattle.module_tree.specs.declared.source.Top.TheVariants as top
 use Rattle.grammar.specs.Fault.{Unexpected, OutOfRange}
 use Rattle.grammar.specs.Parser as parser
 use Rattle.grammar.specs.Parser.{◌>>=◌, ◌>>◌, pure, either, many, closed, take}

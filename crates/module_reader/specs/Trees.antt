@@ -1,12 +1,12 @@
 -- How the statements and texts of a source tree are made of what stands in a text. A place is the number of bytes before it. This project's own.
 use Rattle.std.specs.Prelude.{ℕ, Bool, List}
 use Rattle.std.specs.List.{list_any}
-use Rattle.hh_term.specs.declared.source.BlockNode.{BlockNode, roll-BlockNode, out-BlockNode}
-use Rattle.hh_term.specs.declared.source.StatementNode.{StatementNode, roll-StatementNode}
-use Rattle.hh_term.specs.declared.source.Statement.{Statement}
-use Rattle.hh_term.specs.declared.source.Statement.TheVariants as s
-use Rattle.hh_term.specs.declared.source.Top.{Top}
-use Rattle.hh_term.specs.Source.{is_module}
+use Rattle.module_tree.specs.declared.source.BlockNode.{BlockNode, roll-BlockNode, out-BlockNode}
+use Rattle.module_tree.specs.declared.source.StatementNode.{StatementNode, roll-StatementNode}
+use Rattle.module_tree.specs.declared.source.Statement.{Statement}
+use Rattle.module_tree.specs.declared.source.Statement.TheVariants as s
+use Rattle.module_tree.specs.declared.source.Top.{Top}
+use Rattle.module_tree.specs.Source.{is_module}
 use Rattle.expression_reader.specs.Trees.{Name, at}
 
 -- ---- statements

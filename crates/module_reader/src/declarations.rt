@@ -8,8 +8,8 @@ use expression_reader::cursor::Reader;
 use expression_reader::fault::Refused;
 use expression_reader::terminal::Terminal;
 use hh_base::value::{CombineWord, Kind, Pos, Value};
-use hh_term::program::Dir;
-use hh_term::source::{DeclNode, ParamNode, SigNode};
+use hh_base::value::Dir;
+use module_tree::source::{DeclNode, ParamNode, SigNode};
 use module_token::keyword::Keyword;
 use module_token::punct::Punct;
 

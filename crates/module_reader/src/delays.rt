@@ -10,7 +10,7 @@ use expression_reader::cursor::Reader;
 use expression_reader::fault::Refused;
 use hh_base::name::Name;
 use hh_base::text::Text;
-use hh_term::source::{Binding, Delay, ExprAt, NameAt, Plain};
+use module_tree::source::{Binding, Delay, ExprAt, NameAt, Plain};
 use module_token::keyword::Keyword;
 use module_token::punct::Punct;
 use sqlite_items::Items;

@@ -12,7 +12,7 @@ use expression_reader::cursor::Reader;
 use expression_reader::fault::Refused;
 use hh_base::name::Name;
 use hh_base::value::Kind;
-use hh_term::source::{Binding, DeclNode, ParamNode, SigNode};
+use module_tree::source::{Binding, DeclNode, ParamNode, SigNode};
 use module_token::punct::Punct;
 use sqlite_items::Items;
 

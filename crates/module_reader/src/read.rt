@@ -1,6 +1,6 @@
 //! The call that reads a module text.
 ghost use Rattle.std.specs.Prelude.{◌≡◌, ◌≢◌, ◌<◌, ◌^◌, List, All, length, IfOk, IfErr, MatchResult};
-ghost use Rattle.hh_term.specs.declared.source.Top.{Top as ATop};
+ghost use Rattle.module_tree.specs.declared.source.Top.{Top as ATop};
 ghost use Rattle.grammar.specs.Parser as parser;
 ghost use Rattle.grammar.specs.Parser.{Exact};
 ghost use Rattle.expression_reader.specs.Cursor.{IsReadable, toks};
@@ -15,7 +15,7 @@ use expression_reader::cursor::Reader;
 use expression_reader::fault::Refused;
 use hh_base::name::Name;
 use hh_base::value::Pos;
-use hh_term::source::{Modules, Top};
+use module_tree::source::{Modules, Top};
 use module_token::fault::ReadKind;
 use module_token::token::Token;
 use module_token::tokens::tokens;

@@ -2,7 +2,7 @@
 ghost use Rattle.std.specs.Prelude.{◌≡◌};
 ghost use Rattle.grammar.specs.Parser as parser;
 ghost use Rattle.grammar.specs.Parser.{Reads};
-ghost use Rattle.hh_term.specs.declared.source.Statement as A;
+ghost use Rattle.module_tree.specs.declared.source.Statement as A;
 ghost use Rattle.expression_reader.specs.Refusals.{seen};
 ghost use Rattle.expression_reader.specs.Terminals.{is_keyword, is_in_curly};
 ghost use Rattle.module_reader.specs.Trees as tree;
@@ -18,7 +18,7 @@ use expression_reader::fault::Refused;
 use expression_reader::terminal::Terminal;
 use hh_base::name::Name;
 use hh_base::value::Pos;
-use hh_term::source::{AsyncNode, BlockNode, Statement, StatementNode};
+use module_tree::source::{AsyncNode, BlockNode, Statement, StatementNode};
 use module_token::keyword::Keyword;
 use module_token::punct::Punct;
 use sqlite_items::Items;

@@ -14,7 +14,7 @@ use expression_reader::cursor::Reader;
 use expression_reader::fault::Refused;
 use hh_base::name::Name;
 use hh_base::value::Pos;
-use hh_term::source::{BodyNode, ExprAt, HostNode, ModuleNode, Top};
+use module_tree::source::{BodyNode, ExprAt, HostNode, ModuleNode, Top};
 use module_token::keyword::Keyword;
 use module_token::punct::Punct;
 use sqlite_items::Items;

@@ -1,6 +1,6 @@
 //! Module texts that are read, printed, and read again, and the login text cut off at each byte.
 
-use hh_term::source::Modules;
+use module_tree::source::Modules;
 use module_printer::print::print;
 use module_reader::fault::ReadFault;
 use module_reader::read::read;

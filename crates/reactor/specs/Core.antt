@@ -2,8 +2,8 @@
 -- project's own.)
 use Rattle.std.specs.Prelude.{ℕ, zero, Bool, true, false, cond, ◌&&◌, Option, Some, None, List, [], ◌∷◌, map, slice_get}
 use Rattle.hh_base.specs.declared.value.Value.{Value}
-use Rattle.hh_term.specs.declared.program.Dir.{Dir}
-use Rattle.hh_term.specs.declared.program.Dir.TheVariants as dir
+use Rattle.hh_base.specs.declared.value.Dir.{Dir}
+use Rattle.hh_base.specs.declared.value.Dir.TheVariants as dir
 use Rattle.hh_term.specs.declared.program.SignalDecl.{SignalDecl}
 use Rattle.hh_term.specs.Selection.{Control, Fresh}
 use Rattle.hh_term.specs.Kernel.{Kernel}

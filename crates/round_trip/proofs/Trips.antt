@@ -1,8 +1,8 @@
 -- The printed text of a source tree has that tree, but for places. And each tree of a text is a source tree.
 use Rattle.std.proofs.Common.{◌≡◌, ℕ, true, List, map, Result, Ok, Err, sym, subst}
 use Rattle.std.specs.Prelude.{IfOk, IfErr, MatchResult}
-use Rattle.hh_term.specs.declared.source.Top.{Top}
-use Rattle.hh_term.specs.Source.{is_source}
+use Rattle.module_tree.specs.declared.source.Top.{Top}
+use Rattle.module_tree.specs.Source.{is_source}
 use Rattle.module_token.specs.declared.fault.ReadKind.TheVariants as k
 use Rattle.module_printer.specs.Printed.{printed}
 use Rattle.module_reader.specs.declared.fault.ReadFault.{ReadFault}

@@ -3,7 +3,7 @@ use Rattle.std.specs.Prelude.{◌≡◌, ℕ, ◌≤◌, ◌^◌, true, List, []
 use Rattle.std.specs.Fmt.{decimal}
 use Rattle.hh_base.specs.Literal.{quoted}
 use Rattle.hh_base.specs.Text.{IsText}
-use Rattle.hh_term.specs.SourceWords.{is_written_name}
+use Rattle.module_tree.specs.SourceWords.{is_written_name}
 use Rattle.module_token.specs.declared.token.TokenKind.{TokenKind}
 use Rattle.module_token.specs.declared.token.TokenKind.TheVariants as token
 use Rattle.module_token.specs.Spelling.{keyword_text, punct_text}

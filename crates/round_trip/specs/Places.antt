@@ -3,25 +3,25 @@ use Rattle.std.specs.Prelude.{◌≡◌, List, map, option_map}
 use Rattle.host_expr.specs.declared.expr.Expr.{Expr}
 use Rattle.host_expr.specs.declared.expr.ExprNode.{ExprNode, roll-ExprNode}
 use Rattle.host_expr.specs.declared.expr.ExprNode.TheFolds.{fold-Expr}
-use Rattle.hh_term.specs.declared.source.NameAt.{NameAt}
-use Rattle.hh_term.specs.declared.source.ExprAt.{ExprAt}
-use Rattle.hh_term.specs.declared.source.SigNode.{SigNode}
-use Rattle.hh_term.specs.declared.source.DeclNode.{DeclNode}
-use Rattle.hh_term.specs.declared.source.ParamNode.{ParamNode}
-use Rattle.hh_term.specs.declared.source.Binding.{Binding}
-use Rattle.hh_term.specs.declared.source.AsyncNode.{AsyncNode}
-use Rattle.hh_term.specs.declared.source.BlockNode.{BlockNode}
-use Rattle.hh_term.specs.declared.source.StatementNode.{StatementNode}
-use Rattle.hh_term.specs.declared.source.Statement.{Statement}
-use Rattle.hh_term.specs.declared.source.Statement.TheVariants as s
-use Rattle.hh_term.specs.declared.source.Statement.TheOpen as layer
-use Rattle.hh_term.specs.declared.source.Statement.TheFolds.{fold-BlockNode}
-use Rattle.hh_term.specs.declared.source.Plain.{Plain}
-use Rattle.hh_term.specs.declared.source.Plain.TheVariants as plain
-use Rattle.hh_term.specs.declared.source.Delay.{Delay}
-use Rattle.hh_term.specs.declared.source.Delay.TheVariants as delay
-use Rattle.hh_term.specs.declared.source.Top.{Top}
-use Rattle.hh_term.specs.declared.source.Top.TheVariants as top
+use Rattle.module_tree.specs.declared.source.NameAt.{NameAt}
+use Rattle.module_tree.specs.declared.source.ExprAt.{ExprAt}
+use Rattle.module_tree.specs.declared.source.SigNode.{SigNode}
+use Rattle.module_tree.specs.declared.source.DeclNode.{DeclNode}
+use Rattle.module_tree.specs.declared.source.ParamNode.{ParamNode}
+use Rattle.module_tree.specs.declared.source.Binding.{Binding}
+use Rattle.module_tree.specs.declared.source.AsyncNode.{AsyncNode}
+use Rattle.module_tree.specs.declared.source.BlockNode.{BlockNode}
+use Rattle.module_tree.specs.declared.source.StatementNode.{StatementNode}
+use Rattle.module_tree.specs.declared.source.Statement.{Statement}
+use Rattle.module_tree.specs.declared.source.Statement.TheVariants as s
+use Rattle.module_tree.specs.declared.source.Statement.TheOpen as layer
+use Rattle.module_tree.specs.declared.source.Statement.TheFolds.{fold-BlockNode}
+use Rattle.module_tree.specs.declared.source.Plain.{Plain}
+use Rattle.module_tree.specs.declared.source.Plain.TheVariants as plain
+use Rattle.module_tree.specs.declared.source.Delay.{Delay}
+use Rattle.module_tree.specs.declared.source.Delay.TheVariants as delay
+use Rattle.module_tree.specs.declared.source.Top.{Top}
+use Rattle.module_tree.specs.declared.source.Top.TheVariants as top
 use Rattle.expression_reader.specs.Trees.{Name, at, node}
 use Rattle.module_reader.specs.Trees.{statement_at, block_at}
 

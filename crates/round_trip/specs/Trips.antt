@@ -1,7 +1,7 @@
 -- What printing and reading say of each other. This project's own.
 use Rattle.std.specs.Prelude.{◌≡◌, ℕ, true, List}
-use Rattle.hh_term.specs.declared.source.Top.{Top}
-use Rattle.hh_term.specs.Source.{is_source}
+use Rattle.module_tree.specs.declared.source.Top.{Top}
+use Rattle.module_tree.specs.Source.{is_source}
 use Rattle.module_printer.specs.Printed.{printed}
 use Rattle.module_reader.specs.Reading.{HasTree}
 use Rattle.round_trip.specs.Places.{SameButPlaces}

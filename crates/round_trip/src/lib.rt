@@ -10,7 +10,7 @@ ghost use Rattle.round_trip.specs.Trips.{EachSourceTreeHasAText, EachTreeOfAText
 mod tests;
 
 use hh_base::value::Pos;
-use hh_term::source::Modules;
+use module_tree::source::Modules;
 use module_printer::print::print;
 use module_reader::fault::ReadFault;
 use module_reader::read::read;

@@ -4,7 +4,7 @@ ghost use Rattle.std.specs.Prelude.{◌≡◌};
 ghost use Rattle.module_printer.specs.Printed.{printed};
 
 use crate::read_back;
-use hh_term::source::Modules;
+use module_tree::source::Modules;
 use module_printer::print::print;
 use module_reader::read::read;
 use std::alloc::Global;

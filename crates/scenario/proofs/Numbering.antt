@@ -7,11 +7,12 @@ use Rattle.std.specs.Str.{bytes_eq}
 use Rattle.std.proofs.lemmas.Map.Text.{hash_map_updates_str}
 use Rattle.std.proofs.lemmas.Slice.Eq.{bytes_eq-Decides}
 use Rattle.std.proofs.lemmas.Option.{slice_get_within, slice_get_read}
-use Rattle.hh_term.specs.declared.program.Dir.{Dir}
-use Rattle.hh_term.specs.declared.program.Dir.TheVariants as dir
+use Rattle.hh_base.specs.declared.value.Dir.{Dir}
+use Rattle.hh_base.specs.declared.value.Dir.TheVariants as dir
 use Rattle.hh_term.specs.declared.program.SignalDecl.{SignalDecl}
 use Rattle.reactor.specs.Core.{name_at, name_or_none}
-use Rattle.scenario.specs.Interface.{is_input, is_input_at, is_interface, is_interface_at, interface_name, HasNames, HasWords, IsWord, LacksInput}
+use Rattle.hh_base.specs.Value.{is_interface}
+use Rattle.scenario.specs.Interface.{is_input, is_input_at, is_interface_at, interface_name, HasNames, HasWords, IsWord, LacksInput}
 use Rattle.scenario.specs.Index.{Numbers, number_of, IsIndex, IsIndexBelow}
 
 -- what the declaration at a place says

@@ -3,13 +3,14 @@ use Rattle.std.proofs.Common.{◌≡◌, ◌≢◌, ◌<◌, ◌≤◌, ◌^◌,
 use Rattle.std.specs.Prelude.{IsSome, slice_get}
 use Rattle.std.specs.List.{AllByRecursion}
 use Rattle.std.proofs.lemmas.Bool.{cases_eq, cases_lt}
-use Rattle.hh_term.specs.declared.program.Dir.TheVariants as dir
+use Rattle.hh_base.specs.declared.value.Dir.TheVariants as dir
 use Rattle.hh_term.specs.declared.program.SignalDecl.{SignalDecl}
 use Rattle.hh_term.specs.Kernel.{Kernel}
 use Rattle.hh_term.specs.Pairs.{EachPair}
 use Rattle.hh_term.specs.IsProgram.{IsProgram, NamesDiffer}
 use Rattle.reactor.specs.Core.{name_at, name_or_none}
-use Rattle.scenario.specs.Interface.{is_interface, is_interface_at, HasNames}
+use Rattle.hh_base.specs.Value.{is_interface}
+use Rattle.scenario.specs.Interface.{is_interface_at, HasNames}
 use Rattle.scenario.proofs.Numbering.{interface_at-read, name_at-read}
 
 -- no signal of the interface is local

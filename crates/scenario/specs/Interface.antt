@@ -1,7 +1,8 @@
 -- The signals of a program's interface, by number and by name. (This project's own.)
 use Rattle.std.specs.Prelude.{◌≡◌, ◌≢◌, ℕ, ◌<◌, ◌^◌, Bool, true, false, cond, Option, Some, None, List, [], All, IsSome, slice_get}
-use Rattle.hh_term.specs.declared.program.Dir.{Dir}
-use Rattle.hh_term.specs.declared.program.Dir.TheVariants as dir
+use Rattle.hh_base.specs.declared.value.Dir.{Dir}
+use Rattle.hh_base.specs.declared.value.Dir.TheVariants as dir
+use Rattle.hh_base.specs.Value.{is_interface}
 use Rattle.hh_term.specs.declared.program.SignalDecl.{SignalDecl}
 use Rattle.reactor.specs.Core.{name_at}
 
@@ -12,11 +13,6 @@ is_input _ = false
 
 abbrev pub is_input_at : List SignalDecl → ℕ → Bool
 is_input_at signals s = (elim (slice_get signals s) [ Some d ↦ is_input d.dir | None ↦ false ])
-
--- a signal of the interface, which the environment gives or is told of
-abbrev pub is_interface : Dir → Bool
-is_interface dir.Local = false
-is_interface _ = true
 
 abbrev pub is_interface_at : List SignalDecl → ℕ → Bool
 is_interface_at signals s = (elim (slice_get signals s) [ Some d ↦ is_interface d.dir | None ↦ false ])

@@ -6,8 +6,8 @@ ghost use Rattle.scenario.specs.Index.{IsIndex, number_of};
 ghost use Rattle.scenario.specs.Interface.{HasNames, HasWords, IsWord, LacksInput, interface_name, is_input, is_input_at};
 
 use hh_base::name::Name;
-use hh_base::value::NoMemory;
-use hh_term::program::{Dir, SignalDecl};
+use hh_base::value::{Dir, NoMemory};
+use hh_term::program::SignalDecl;
 use std::alloc::Global;
 use std::collections::HashMap;
 

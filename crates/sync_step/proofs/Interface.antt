@@ -14,7 +14,7 @@ use Rattle.host_expr.specs.declared.cell.SigCell.{SigCell}
 use Rattle.host_expr.specs.Environment.{Env, is_known, is_present, put, unsolved}
 use Rattle.host_expr.specs.Combination.{combined, counts_as}
 use Rattle.hh_term.specs.declared.program.SignalDecl.{SignalDecl}
-use Rattle.hh_term.specs.declared.program.Dir.TheVariants as dir
+use Rattle.hh_base.specs.declared.value.Dir.TheVariants as dir
 use Rattle.hh_term.specs.FirstLanguage.{HasDirection}
 use Rattle.hh_term.specs.MustCan.{Table, MustCan, cells_of, status_by, value_by, all_known, raised, round}
 use Rattle.hh_term.specs.Reaction.{Last, Outer, given_bag, with_given, solved_cell, nest, solved, given_to, outers_from}

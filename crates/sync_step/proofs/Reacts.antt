@@ -15,8 +15,8 @@ use Rattle.host_expr.specs.declared.cell.Cell.TheVariants as cell
 use Rattle.host_expr.specs.declared.cell.SigCell.{SigCell}
 use Rattle.host_expr.specs.Environment.{Env, is_known, is_decided, is_present, blank}
 use Rattle.host_expr.specs.Combination.{is_several, is_overflowed}
-use Rattle.hh_term.specs.declared.program.Dir.{Dir}
-use Rattle.hh_term.specs.declared.program.Dir.TheVariants as dir
+use Rattle.hh_base.specs.declared.value.Dir.{Dir}
+use Rattle.hh_base.specs.declared.value.Dir.TheVariants as dir
 use Rattle.hh_term.specs.declared.program.SignalDecl.{SignalDecl}
 use Rattle.hh_term.specs.FirstLanguage.{HasDirection, IsFirstSignal, IsFirstLanguage, IsOneWay, IsFirstStatement}
 use Rattle.hh_term.specs.Kernel.{Kernel}

@@ -10,7 +10,7 @@ use Rattle.host_expr.specs.Expression.{Now}
 use Rattle.host_expr.specs.Environment.{Env}
 use Rattle.host_expr.specs.Evaluation.{eval_of}
 use Rattle.hh_term.specs.declared.program.SignalDecl.{SignalDecl}
-use Rattle.hh_term.specs.declared.program.Dir.TheVariants as dir
+use Rattle.hh_base.specs.declared.value.Dir.TheVariants as dir
 use Rattle.hh_term.specs.Statement.{Statement, Nothing, Pause, Emit, If, Seq}
 use Rattle.hh_term.specs.Selection.{Selection, First, Second, Task, Start, Resume}
 use Rattle.hh_term.specs.FirstLanguage.{IsFirstStatement, HasDirection}

@@ -4,8 +4,8 @@ use Rattle.std.specs.Prelude.{◌≡◌, ℕ, Bool, true, false, cond, ◌&&◌,
 use Rattle.std.specs.List.{AllByRecursion}
 use Rattle.hh_base.specs.declared.value.Value.{Value}
 use Rattle.hh_base.specs.declared.value.Value.TheVariants as value
-use Rattle.hh_term.specs.declared.program.Dir.{Dir}
-use Rattle.hh_term.specs.declared.program.Dir.TheVariants as dir
+use Rattle.hh_base.specs.declared.value.Dir.{Dir}
+use Rattle.hh_base.specs.declared.value.Dir.TheVariants as dir
 use Rattle.hh_term.specs.declared.program.SignalDecl.{SignalDecl}
 use Rattle.hh_term.specs.Kernel.{Kernel}
 use Rattle.hh_term.specs.Selection.{Control}

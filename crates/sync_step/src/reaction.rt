@@ -2,7 +2,7 @@
 
 ghost use Rattle.std.specs.Prelude.{◌≡◌, Some, IfOk};
 ghost use Rattle.std.specs.List.{AllByRecursion};
-ghost use Rattle.hh_term.specs.declared.program.Dir.TheVariants.{Input};
+ghost use Rattle.hh_base.specs.declared.value.Dir.TheVariants.{Input};
 ghost use Rattle.hh_term.specs.ControlIn.{control_in};
 ghost use Rattle.hh_term.specs.FirstLanguage.{HasDirection, IsFirstLanguage};
 ghost use Rattle.hh_term.specs.Marks.{IsControlOf};

@@ -3,7 +3,7 @@
 ghost use Rattle.std.specs.Prelude.{◌≡◌, ℕ, Some, None, IfOk, [], ◌∷◌};
 ghost use Rattle.hh_base.specs.declared.value.Kind.TheVariants.{Pure};
 ghost use Rattle.hh_base.specs.declared.value.Value.TheVariants as value;
-ghost use Rattle.hh_term.specs.declared.program.Dir.TheVariants.{Input};
+ghost use Rattle.hh_base.specs.declared.value.Dir.TheVariants.{Input};
 ghost use Rattle.host_expr.specs.Expression.{Now};
 ghost use Rattle.hh_term.specs.FirstLanguage.{HasDirection, IsFirstLanguage};
 ghost use Rattle.hh_term.specs.Statement as statement;
@@ -14,7 +14,8 @@ use super::step;
 use hh_base::name::Name;
 use hh_base::value::{Kind, NoMemory, Pos, Value};
 use hh_term::mark::Marked;
-use hh_term::program::{Dir, Program, SignalDecl};
+use hh_base::value::Dir;
+use hh_term::program::{Program, SignalDecl};
 use hh_term::term::{Term, TermNode};
 use host_expr::expr::{Expr, ExprNode};
 use std::alloc::Global;

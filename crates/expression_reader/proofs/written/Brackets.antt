@@ -4,10 +4,10 @@ use Rattle.std.specs.List.{AllByRecursion, list_all}
 use Rattle.std.proofs.Math.Nat.{max-le}
 use Rattle.std.proofs.lemmas.Bool.{le-leb}
 use Rattle.host_expr.specs.declared.expr.Expr.{Expr}
-use Rattle.hh_term.specs.declared.source.ExprAt.{ExprAt}
-use Rattle.hh_term.specs.SourceExpressions.{nesting_of}
-use Rattle.hh_term.specs.SourceForms.{if_there, fits_expression}
-use Rattle.hh_term.specs.SourceNesting.{in_parentheses, nesting_of_value, largest}
+use Rattle.module_tree.specs.declared.source.ExprAt.{ExprAt}
+use Rattle.module_tree.specs.SourceExpressions.{nesting_of}
+use Rattle.module_tree.specs.SourceForms.{if_there, fits_expression}
+use Rattle.module_tree.specs.SourceNesting.{in_parentheses, nesting_of_value, largest}
 use Rattle.grammar.specs.Texts.{Few}
 use Rattle.grammar.specs.Language as l
 use Rattle.grammar.specs.Language.{◌>>=◌, ◌>>◌, pure, ranks}

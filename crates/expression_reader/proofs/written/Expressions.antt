@@ -9,11 +9,11 @@ use Rattle.host_expr.specs.declared.expr.Op.TheVariants as op
 use Rattle.host_expr.specs.declared.expr.Rel.TheVariants as rel
 use Rattle.host_expr.specs.declared.expr.Rel.{Rel}
 use Rattle.host_expr.specs.declared.expr.Expr.{Expr}
-use Rattle.hh_term.specs.declared.level.Level.{Level}
-use Rattle.hh_term.specs.declared.level.Level.TheVariants as level
-use Rattle.hh_term.specs.Parentheses.{rank_of}
+use Rattle.module_tree.specs.declared.level.Level.{Level}
+use Rattle.module_tree.specs.declared.level.Level.TheVariants as level
+use Rattle.module_tree.specs.Parentheses.{rank_of}
 use Rattle.std.specs.Str.{is_utf8}
-use Rattle.hh_term.specs.SourceWords.{is_written_name, is_written_text}
+use Rattle.module_tree.specs.SourceWords.{is_written_name, is_written_text}
 use Rattle.grammar.specs.Language as l
 use Rattle.grammar.proofs.KindSets.{both as parts}
 use Rattle.module_token.specs.declared.keyword.Keyword.{Keyword}

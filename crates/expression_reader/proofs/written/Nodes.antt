@@ -9,12 +9,12 @@ use Rattle.host_expr.specs.declared.expr.Expr.{Expr}
 use Rattle.host_expr.specs.declared.expr.ExprNode.{ExprNode, roll-ExprNode}
 use Rattle.host_expr.specs.declared.expr.ExprNode.TheVariants as x
 use Rattle.host_expr.specs.declared.expr.ExprNode.TheOpen as e
-use Rattle.hh_term.specs.declared.level.Level.{Level}
-use Rattle.hh_term.specs.declared.level.Level.TheVariants as level
-use Rattle.hh_term.specs.Parentheses.{levelled, levelled_step, rank_of, is_looser, level_of_op, right_of_op}
-use Rattle.hh_term.specs.Parentheses as p
-use Rattle.hh_term.specs.SourceWords.{is_written_name, is_written_text}
-use Rattle.hh_term.specs.SourceExpressions.{words_step, size_step, nesting_step, has_written_words, size_of, nesting_of}
+use Rattle.module_tree.specs.declared.level.Level.{Level}
+use Rattle.module_tree.specs.declared.level.Level.TheVariants as level
+use Rattle.module_tree.specs.Parentheses.{levelled, levelled_step, rank_of, is_looser, level_of_op, right_of_op}
+use Rattle.module_tree.specs.Parentheses as p
+use Rattle.module_tree.specs.SourceWords.{is_written_name, is_written_text}
+use Rattle.module_tree.specs.SourceExpressions.{words_step, size_step, nesting_step, has_written_words, size_of, nesting_of}
 use Rattle.expression_reader.specs.declared.operator.Operator.{Operator}
 use Rattle.expression_reader.specs.declared.operator.Operator.TheVariants as o
 use Rattle.expression_reader.specs.declared.operator.Access.{Access}

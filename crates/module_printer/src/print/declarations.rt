@@ -10,8 +10,8 @@ use crate::print::printer::{Printer, Tokens};
 use hh_base::memory::NoMemory;
 use hh_base::name::Name;
 use hh_base::value::{CombineWord, Kind, Value};
-use hh_term::program::Dir;
-use hh_term::source::{Binding, DeclNode, ParamNode, SigNode};
+use hh_base::value::Dir;
+use module_tree::source::{Binding, DeclNode, ParamNode, SigNode};
 
 fn kind_token(kind: Kind) -> &'static str
     ensures { result.now ≡ token_of_kind kind }

@@ -1,7 +1,7 @@
 //! Writing expressions, with exactly the parentheses that they need.
 
 ghost use Rattle.std.specs.Prelude.{◌≡◌, ◌∷◌, ◌++◌, [], OnOk};
-ghost use Rattle.hh_term.specs.Parentheses.{at};
+ghost use Rattle.module_tree.specs.Parentheses.{at};
 ghost use Rattle.module_printer.specs.ExpressionTokens.{in_parentheses, token_of_op, token_of_rel, token_of_truth, tokens_of_read, tokens_of_expression, written, written_node};
 ghost use Rattle.module_printer.specs.SourceTokens.{tokens_of_outermost};
 ghost use Rattle.module_printer.specs.Printed.{spaced};
@@ -9,8 +9,8 @@ ghost use Rattle.module_printer.specs.Printed.{spaced};
 use crate::print::printer::{Printer, Tokens};
 use hh_base::memory::NoMemory;
 use hh_base::name::Name;
-use hh_term::level::Level;
-use hh_term::source::ExprAt;
+use module_tree::level::Level;
+use module_tree::source::ExprAt;
 use host_expr::expr::{Expr, ExprNode, Op, Rel};
 
 fn op_token(op: Op) -> &'static str

@@ -7,7 +7,7 @@ ghost use Rattle.module_printer.specs.Printed.{spaced};
 use crate::print::printer::Printer;
 use hh_base::memory::NoMemory;
 use hh_base::name::Name;
-use hh_term::source::{
+use module_tree::source::{
     AsyncNode, Binding, BlockNode, Delay, ExprAt, NameAt, Plain, SigNode, Statement, StatementNode,
 };
 

@@ -1,18 +1,18 @@
 //! Trees and the texts that are printed of them.
 
 ghost use Rattle.std.specs.Prelude.{◌≡◌, ◌∷◌, [], true, codes, IfSome};
-ghost use Rattle.hh_term.specs.SourceWords.{is_written_name};
-ghost use Rattle.hh_term.specs.SourceForms.{fits_block, fits_decl};
-ghost use Rattle.hh_term.specs.SourceNesting.{nesting_of_block};
-ghost use Rattle.hh_term.specs.Source.{is_source};
+ghost use Rattle.module_tree.specs.SourceWords.{is_written_name};
+ghost use Rattle.module_tree.specs.SourceForms.{fits_block, fits_decl};
+ghost use Rattle.module_tree.specs.SourceNesting.{nesting_of_block};
+ghost use Rattle.module_tree.specs.Source.{is_source};
 
 use super::print;
 use super::printer::Printer;
 use hh_base::name::Name;
 use hh_base::text::Text;
 use hh_base::value::{CombineWord, Kind, Pos, Value};
-use hh_term::program::Dir;
-use hh_term::source::{
+use hh_base::value::Dir;
+use module_tree::source::{
     AsyncNode, Binding, BlockNode, BodyNode, DeclNode, Delay, ExprAt, HostNode, ModuleNode,
     Modules, NameAt, ParamNode, Plain, SigNode, Statement, StatementNode, Top,
 };

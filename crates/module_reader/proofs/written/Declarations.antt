@@ -6,8 +6,9 @@ use Rattle.std.proofs.lemmas.Bool.{le-leb}
 use Rattle.hh_base.specs.declared.value.Kind.{Kind}
 use Rattle.hh_base.specs.declared.value.Kind.TheVariants as kind
 use Rattle.hh_base.specs.declared.value.CombineWord.{CombineWord}
-use Rattle.hh_term.specs.SourceWords.{is_written_name, is_written_integer, is_written_text, is_written_value}
-use Rattle.hh_term.specs.SourceForms.{is_valued, is_interface, is_filled, if_there, fits_name, fits_sig, fits_decl, fits_param, fits_binding}
+use Rattle.module_tree.specs.SourceWords.{is_written_name, is_written_integer, is_written_text, is_written_value}
+use Rattle.hh_base.specs.Value.{is_valued, is_interface}
+use Rattle.module_tree.specs.SourceForms.{is_filled, if_there, fits_name, fits_sig, fits_decl, fits_param, fits_binding}
 use Rattle.grammar.specs.Language as l
 use Rattle.module_token.specs.declared.keyword.Keyword.{Keyword}
 use Rattle.module_token.specs.declared.keyword.Keyword.TheVariants as w

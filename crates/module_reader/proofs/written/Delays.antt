@@ -2,9 +2,9 @@
 use Rattle.std.proofs.Common.{ℕ, Bool}
 use Rattle.std.specs.Prelude.{nat_le, ◌&&◌}
 use Rattle.std.proofs.lemmas.Bool.{le-leb}
-use Rattle.hh_term.specs.declared.source.ExprAt.{ExprAt}
-use Rattle.hh_term.specs.SourceForms.{fits_expression, fits_plain, fits_delay}
-use Rattle.hh_term.specs.SourceNesting.{nesting_of_plain, nesting_of_delay}
+use Rattle.module_tree.specs.declared.source.ExprAt.{ExprAt}
+use Rattle.module_tree.specs.SourceForms.{fits_expression, fits_plain, fits_delay}
+use Rattle.module_tree.specs.SourceNesting.{nesting_of_plain, nesting_of_delay}
 use Rattle.expression_reader.specs.Trees.{Name}
 use Rattle.module_reader.specs.Rules as g
 use Rattle.expression_reader.proofs.written.Keeping.{Keeps, keeps, keeps_then, keeps_after, keeps_pure, keeps_or}

@@ -1,11 +1,11 @@
 -- What a recursion over a tree makes of one node: a step on what it makes of the node's parts.
 use Rattle.std.proofs.Common.{◌≡◌, ℕ, List, map, sym, ap, ◌∙◌}
 use Rattle.hh_base.specs.declared.value.Pos.{Pos}
-use Rattle.hh_term.specs.declared.source.BlockNode.{BlockNode}
-use Rattle.hh_term.specs.declared.source.StatementNode.{StatementNode, roll-StatementNode}
-use Rattle.hh_term.specs.declared.source.Statement.{Statement, roll-Statement}
-use Rattle.hh_term.specs.declared.source.Statement.TheOpen as s
-use Rattle.hh_term.specs.declared.source.Statement.TheFolds.{fold-BlockNode, fold-StatementNode, fold-Statement, fold-roll-BlockNode, fold-roll-StatementNode, fold-roll-Statement, map-Statement}
+use Rattle.module_tree.specs.declared.source.BlockNode.{BlockNode}
+use Rattle.module_tree.specs.declared.source.StatementNode.{StatementNode, roll-StatementNode}
+use Rattle.module_tree.specs.declared.source.Statement.{Statement, roll-Statement}
+use Rattle.module_tree.specs.declared.source.Statement.TheOpen as s
+use Rattle.module_tree.specs.declared.source.Statement.TheFolds.{fold-BlockNode, fold-StatementNode, fold-Statement, fold-roll-BlockNode, fold-roll-StatementNode, fold-roll-Statement, map-Statement}
 use Rattle.expression_reader.specs.Trees.{Name, at}
 use Rattle.module_reader.specs.Trees.{block_at}
 

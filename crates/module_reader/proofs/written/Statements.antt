@@ -5,18 +5,18 @@ use Rattle.std.specs.List.{AllByRecursion, list_all}
 use Rattle.std.proofs.Math.Nat.{max-le}
 use Rattle.std.proofs.lemmas.List.Folds.{list_all-map}
 use Rattle.hh_base.specs.declared.value.Pos.{Pos}
-use Rattle.hh_term.specs.declared.source.NameAt.{NameAt}
-use Rattle.hh_term.specs.declared.source.ExprAt.{ExprAt}
-use Rattle.hh_term.specs.declared.source.AsyncNode.{AsyncNode}
-use Rattle.hh_term.specs.declared.source.BlockNode.{BlockNode, out-BlockNode}
-use Rattle.hh_term.specs.declared.source.StatementNode.{StatementNode, roll-StatementNode}
-use Rattle.hh_term.specs.declared.source.Statement.{Statement, roll-Statement}
-use Rattle.hh_term.specs.declared.source.Statement.TheVariants as s
-use Rattle.hh_term.specs.declared.source.Statement.TheOpen as layer
-use Rattle.hh_term.specs.SourceForms as tests
-use Rattle.hh_term.specs.SourceForms.{is_filled, if_there, fits_name, fits_expression, fits_sig, fits_binding, fits_block}
-use Rattle.hh_term.specs.SourceNesting as nests
-use Rattle.hh_term.specs.SourceNesting.{in_parentheses, largest, nesting_of_value, nesting_of_block}
+use Rattle.module_tree.specs.declared.source.NameAt.{NameAt}
+use Rattle.module_tree.specs.declared.source.ExprAt.{ExprAt}
+use Rattle.module_tree.specs.declared.source.AsyncNode.{AsyncNode}
+use Rattle.module_tree.specs.declared.source.BlockNode.{BlockNode, out-BlockNode}
+use Rattle.module_tree.specs.declared.source.StatementNode.{StatementNode, roll-StatementNode}
+use Rattle.module_tree.specs.declared.source.Statement.{Statement, roll-Statement}
+use Rattle.module_tree.specs.declared.source.Statement.TheVariants as s
+use Rattle.module_tree.specs.declared.source.Statement.TheOpen as layer
+use Rattle.module_tree.specs.SourceForms as tests
+use Rattle.module_tree.specs.SourceForms.{is_filled, if_there, fits_name, fits_expression, fits_sig, fits_binding, fits_block}
+use Rattle.module_tree.specs.SourceNesting as nests
+use Rattle.module_tree.specs.SourceNesting.{in_parentheses, largest, nesting_of_value, nesting_of_block}
 use Rattle.module_token.specs.declared.keyword.Keyword.{Keyword}
 use Rattle.module_token.specs.declared.keyword.Keyword.TheVariants as w
 use Rattle.expression_reader.specs.Trees.{Name, at}

@@ -2,10 +2,11 @@
 use Rattle.std.proofs.Common.{◌≡◌, ℕ, ◌≤◌, true, List, [], ◌∷◌, refl, arith}
 use Rattle.std.specs.List.{AllByRecursion, list_all}
 use Rattle.std.proofs.lemmas.Bool.{le-leb}
-use Rattle.hh_term.specs.declared.source.Top.{Top}
-use Rattle.hh_term.specs.SourceForms.{is_valued, fits_decl, fits_param, fits_top}
-use Rattle.hh_term.specs.SourceNesting.{nesting_of_top}
-use Rattle.hh_term.specs.Source.{is_shallow, is_source}
+use Rattle.module_tree.specs.declared.source.Top.{Top}
+use Rattle.hh_base.specs.Value.{is_valued}
+use Rattle.module_tree.specs.SourceForms.{fits_decl, fits_param, fits_top}
+use Rattle.module_tree.specs.SourceNesting.{nesting_of_top}
+use Rattle.module_tree.specs.Source.{is_shallow, is_source}
 use Rattle.grammar.specs.Tokens.{Tok}
 use Rattle.grammar.specs.Texts.{Within}
 use Rattle.expression_reader.specs.declared.terminal.Terminal.{Terminal}

@@ -2,7 +2,7 @@
 
 use crate::read::read;
 use hh_base::name::Name;
-use hh_term::source::{BlockNode, BodyNode, Modules, Statement, Top};
+use module_tree::source::{BlockNode, BodyNode, Modules, Statement, Top};
 use host_expr::expr::{Expr, ExprNode, Op};
 use std::alloc::Global;
 use std::test::Fail;

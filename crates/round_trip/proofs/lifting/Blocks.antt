@@ -2,15 +2,15 @@
 use Rattle.std.proofs.Common.{◌≡◌, ℕ, zero, suc, ◌≤◌, Bool, true, List, [], ◌∷◌, map, Some, None, refl, sym, ap, subst, ◌∙◌, arith}
 use Rattle.std.specs.List.{AllByRecursion, list_all}
 use Rattle.hh_base.specs.declared.value.Pos.{Pos}
-use Rattle.hh_term.specs.declared.source.BlockNode.{BlockNode, roll-BlockNode}
-use Rattle.hh_term.specs.declared.source.StatementNode.{StatementNode, roll-StatementNode}
-use Rattle.hh_term.specs.declared.source.Statement.{Statement, roll-Statement}
-use Rattle.hh_term.specs.declared.source.Statement.TheOpen as layer
-use Rattle.hh_term.specs.declared.source.Statement.TheFolds.{fold-roll-BlockNode, ind-BlockNode, map-Statement, map-StatementNode}
-use Rattle.hh_term.specs.SourceForms as tests
-use Rattle.hh_term.specs.SourceForms.{fits_block}
-use Rattle.hh_term.specs.SourceNesting as nests
-use Rattle.hh_term.specs.SourceNesting.{largest, nesting_of_block}
+use Rattle.module_tree.specs.declared.source.BlockNode.{BlockNode, roll-BlockNode}
+use Rattle.module_tree.specs.declared.source.StatementNode.{StatementNode, roll-StatementNode}
+use Rattle.module_tree.specs.declared.source.Statement.{Statement, roll-Statement}
+use Rattle.module_tree.specs.declared.source.Statement.TheOpen as layer
+use Rattle.module_tree.specs.declared.source.Statement.TheFolds.{fold-roll-BlockNode, ind-BlockNode, map-Statement, map-StatementNode}
+use Rattle.module_tree.specs.SourceForms as tests
+use Rattle.module_tree.specs.SourceForms.{fits_block}
+use Rattle.module_tree.specs.SourceNesting as nests
+use Rattle.module_tree.specs.SourceNesting.{largest, nesting_of_block}
 use Rattle.grammar.proofs.KindSets.{both as parts}
 use Rattle.module_token.specs.declared.punct.Punct.TheVariants as punct
 use Rattle.expression_reader.specs.Trees.{Name, at}

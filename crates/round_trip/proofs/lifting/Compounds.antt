@@ -3,17 +3,17 @@ use Rattle.std.proofs.Common.{◌≡◌, ℕ, ◌≤◌, Bool, true, false, List
 use Rattle.std.specs.Prelude.{option_map}
 use Rattle.std.specs.List.{AllByRecursion, list_all}
 use Rattle.hh_base.specs.declared.value.Pos.{Pos}
-use Rattle.hh_term.specs.declared.source.ExprAt.{ExprAt}
-use Rattle.hh_term.specs.declared.source.SigNode.{SigNode}
-use Rattle.hh_term.specs.declared.source.BlockNode.{BlockNode, out-BlockNode}
-use Rattle.hh_term.specs.declared.source.Statement.TheVariants as s
-use Rattle.hh_term.specs.declared.source.Statement.TheOpen as layer
-use Rattle.hh_term.specs.declared.source.Plain.{Plain}
-use Rattle.hh_term.specs.declared.source.Delay.{Delay}
-use Rattle.hh_term.specs.SourceWords.{is_written_name}
-use Rattle.hh_term.specs.SourceForms.{fits_expression, fits_sig, fits_plain, fits_delay}
-use Rattle.hh_term.specs.SourceNesting as nests
-use Rattle.hh_term.specs.SourceNesting.{nesting_of_plain, nesting_of_delay}
+use Rattle.module_tree.specs.declared.source.ExprAt.{ExprAt}
+use Rattle.module_tree.specs.declared.source.SigNode.{SigNode}
+use Rattle.module_tree.specs.declared.source.BlockNode.{BlockNode, out-BlockNode}
+use Rattle.module_tree.specs.declared.source.Statement.TheVariants as s
+use Rattle.module_tree.specs.declared.source.Statement.TheOpen as layer
+use Rattle.module_tree.specs.declared.source.Plain.{Plain}
+use Rattle.module_tree.specs.declared.source.Delay.{Delay}
+use Rattle.module_tree.specs.SourceWords.{is_written_name}
+use Rattle.module_tree.specs.SourceForms.{fits_expression, fits_sig, fits_plain, fits_delay}
+use Rattle.module_tree.specs.SourceNesting as nests
+use Rattle.module_tree.specs.SourceNesting.{nesting_of_plain, nesting_of_delay}
 use Rattle.module_token.specs.declared.keyword.Keyword.TheVariants as w
 use Rattle.module_token.specs.declared.punct.Punct.TheVariants as punct
 use Rattle.expression_reader.specs.Trees.{Name, at}

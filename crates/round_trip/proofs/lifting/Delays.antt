@@ -3,20 +3,20 @@ use Rattle.std.proofs.Common.{◌≡◌, ℕ, zero, suc, ◌≤◌, cond, true, 
 use Rattle.std.specs.Prelude.{◌&&◌, nat_le, option_map}
 use Rattle.std.proofs.lemmas.Bool.{leb-true}
 use Rattle.host_expr.specs.declared.expr.Expr.{Expr}
-use Rattle.hh_term.specs.declared.level.Level.{Level}
-use Rattle.hh_term.specs.declared.level.Level.TheVariants as level
-use Rattle.hh_term.specs.Parentheses.{Levelled, levelled, is_looser}
-use Rattle.hh_term.specs.Parentheses as p
-use Rattle.hh_term.specs.SourceExpressions.{nesting_step, has_written_words, size_of, nesting_of}
-use Rattle.hh_term.specs.SourceForms as tests
-use Rattle.hh_term.specs.SourceForms.{fits_expression, fits_plain, fits_delay}
-use Rattle.hh_term.specs.SourceNesting as nests
-use Rattle.hh_term.specs.SourceNesting.{nesting_of_value, nesting_of_plain, nesting_of_delay}
-use Rattle.hh_term.specs.declared.source.ExprAt.{ExprAt}
-use Rattle.hh_term.specs.declared.source.Plain.{Plain}
-use Rattle.hh_term.specs.declared.source.Plain.TheVariants as plain
-use Rattle.hh_term.specs.declared.source.Delay.{Delay}
-use Rattle.hh_term.specs.declared.source.Delay.TheVariants as delay
+use Rattle.module_tree.specs.declared.level.Level.{Level}
+use Rattle.module_tree.specs.declared.level.Level.TheVariants as level
+use Rattle.module_tree.specs.Parentheses.{Levelled, levelled, is_looser}
+use Rattle.module_tree.specs.Parentheses as p
+use Rattle.module_tree.specs.SourceExpressions.{nesting_step, has_written_words, size_of, nesting_of}
+use Rattle.module_tree.specs.SourceForms as tests
+use Rattle.module_tree.specs.SourceForms.{fits_expression, fits_plain, fits_delay}
+use Rattle.module_tree.specs.SourceNesting as nests
+use Rattle.module_tree.specs.SourceNesting.{nesting_of_value, nesting_of_plain, nesting_of_delay}
+use Rattle.module_tree.specs.declared.source.ExprAt.{ExprAt}
+use Rattle.module_tree.specs.declared.source.Plain.{Plain}
+use Rattle.module_tree.specs.declared.source.Plain.TheVariants as plain
+use Rattle.module_tree.specs.declared.source.Delay.{Delay}
+use Rattle.module_tree.specs.declared.source.Delay.TheVariants as delay
 use Rattle.grammar.specs.Language as l
 use Rattle.grammar.specs.Language.{ranks}
 use Rattle.grammar.proofs.KindSets.{both as parts}

@@ -8,11 +8,11 @@ use Rattle.host_expr.specs.declared.expr.Expr.{Expr}
 use Rattle.host_expr.specs.declared.expr.ExprNode.{roll-ExprNode}
 use Rattle.host_expr.specs.declared.expr.ExprNode.TheVariants as x
 use Rattle.host_expr.specs.declared.expr.ExprNode.TheOpen as e
-use Rattle.hh_term.specs.declared.level.Level.{Level}
-use Rattle.hh_term.specs.Parentheses.{Levelled, levelled, levelled_step, is_looser}
-use Rattle.hh_term.specs.Parentheses as p
-use Rattle.hh_term.specs.SourceWords.{is_written_name, is_written_text}
-use Rattle.hh_term.specs.SourceExpressions.{words_step, nesting_step, has_written_words}
+use Rattle.module_tree.specs.declared.level.Level.{Level}
+use Rattle.module_tree.specs.Parentheses.{Levelled, levelled, levelled_step, is_looser}
+use Rattle.module_tree.specs.Parentheses as p
+use Rattle.module_tree.specs.SourceWords.{is_written_name, is_written_text}
+use Rattle.module_tree.specs.SourceExpressions.{words_step, nesting_step, has_written_words}
 use Rattle.grammar.specs.Language as l
 use Rattle.grammar.specs.Language.{◌or◌}
 use Rattle.grammar.proofs.KindSets.{both as parts}

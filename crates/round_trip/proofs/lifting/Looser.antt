@@ -2,10 +2,10 @@
 use Rattle.std.proofs.Common.{◌≡◌, ℕ, zero, suc, ◌≤◌, cond, Bool, true, false, refl, sym, subst, ⊎_elim, arith}
 use Rattle.std.proofs.lemmas.Bool.{cases_eq, ltb-false}
 use Rattle.host_expr.specs.declared.expr.Expr.{Expr}
-use Rattle.hh_term.specs.declared.level.Level.{Level}
-use Rattle.hh_term.specs.declared.level.Level.TheVariants as level
-use Rattle.hh_term.specs.Parentheses.{rank_of, is_looser}
-use Rattle.hh_term.specs.Parentheses as p
+use Rattle.module_tree.specs.declared.level.Level.{Level}
+use Rattle.module_tree.specs.declared.level.Level.TheVariants as level
+use Rattle.module_tree.specs.Parentheses.{rank_of, is_looser}
+use Rattle.module_tree.specs.Parentheses as p
 use Rattle.module_token.specs.declared.punct.Punct.TheVariants as punct
 use Rattle.expression_reader.specs.Trees.{Name, compared, chosen}
 use Rattle.module_printer.specs.ExpressionTokens.{Tokens, in_parentheses}

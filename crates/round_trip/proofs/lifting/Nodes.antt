@@ -4,7 +4,7 @@ use Rattle.host_expr.specs.declared.expr.Expr.{Expr, roll-Expr}
 use Rattle.host_expr.specs.declared.expr.ExprNode.{ExprNode, roll-ExprNode}
 use Rattle.host_expr.specs.declared.expr.ExprNode.TheOpen as e
 use Rattle.host_expr.specs.declared.expr.ExprNode.TheFolds.{fold-ExprNode, fold-roll-Expr, fold-roll-ExprNode, ind-Expr, map-ExprNode, map-Expr}
-use Rattle.hh_term.specs.SourceExpressions.{size_step, size_of}
+use Rattle.module_tree.specs.SourceExpressions.{size_step, size_of}
 use Rattle.expression_reader.specs.declared.operator.Operator.{Operator}
 use Rattle.expression_reader.specs.Trees.{Name, at, node, binary_node, joined}
 use Rattle.round_trip.specs.Places.{placeless_expr}

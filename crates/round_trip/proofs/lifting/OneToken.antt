@@ -5,7 +5,7 @@ use Rattle.std.proofs.lemmas.Bool.{le-leb}
 use Rattle.hh_base.specs.Keyword.{is_keyword}
 use Rattle.hh_base.specs.Literal as literal
 use Rattle.hh_base.specs.Text.{IsText}
-use Rattle.hh_term.specs.SourceWords.{is_written_name}
+use Rattle.module_tree.specs.SourceWords.{is_written_name}
 use Rattle.grammar.specs.Language as l
 use Rattle.module_token.specs.Tokens.{Tok}
 use Rattle.module_token.proofs.Unquoted.{value_of_quoted}

@@ -11,8 +11,8 @@ use Rattle.host_expr.specs.declared.expr.ExprNode.{ExprNode, roll-ExprNode}
 use Rattle.host_expr.specs.declared.expr.ExprNode.TheVariants as x
 use Rattle.host_expr.specs.declared.expr.ExprNode.TheOpen as e
 use Rattle.host_expr.specs.declared.expr.ExprNode.TheFolds.{ind-Expr, map-ExprNode, map-Expr}
-use Rattle.hh_term.specs.declared.level.Level.TheVariants as level
-use Rattle.hh_term.specs.SourceExpressions.{has_written_words, words_step}
+use Rattle.module_tree.specs.declared.level.Level.TheVariants as level
+use Rattle.module_tree.specs.SourceExpressions.{has_written_words, words_step}
 use Rattle.grammar.proofs.KindSets.{both as parts}
 use Rattle.module_token.specs.declared.punct.Punct.{Punct}
 use Rattle.module_token.specs.declared.punct.Punct.TheVariants as punct

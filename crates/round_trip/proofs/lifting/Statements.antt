@@ -4,22 +4,22 @@ use Rattle.std.specs.Prelude.{◌&&◌, option_map}
 use Rattle.std.specs.List.{list_all}
 use Rattle.std.proofs.Math.Nat.{le-max_left, le-max_right}
 use Rattle.hh_base.specs.declared.value.Pos.{Pos}
-use Rattle.hh_term.specs.declared.source.NameAt.{NameAt}
-use Rattle.hh_term.specs.declared.source.ExprAt.{ExprAt}
-use Rattle.hh_term.specs.declared.source.Binding.{Binding}
-use Rattle.hh_term.specs.declared.source.AsyncNode.{AsyncNode}
-use Rattle.hh_term.specs.declared.source.BlockNode.{BlockNode}
-use Rattle.hh_term.specs.declared.source.StatementNode.{StatementNode, roll-StatementNode}
-use Rattle.hh_term.specs.declared.source.Statement.{Statement, roll-Statement}
-use Rattle.hh_term.specs.declared.source.Statement.TheVariants as s
-use Rattle.hh_term.specs.declared.source.Statement.TheOpen as layer
-use Rattle.hh_term.specs.declared.source.Statement.TheFolds.{fold-Statement, fold-StatementNode, fold-roll-StatementNode, fold-roll-Statement, map-Statement}
-use Rattle.hh_term.specs.declared.source.Delay.{Delay}
-use Rattle.hh_term.specs.SourceWords.{is_written_text}
-use Rattle.hh_term.specs.SourceForms as tests
-use Rattle.hh_term.specs.SourceForms.{fits_name, fits_expression, fits_binding, fits_delay, fits_async}
-use Rattle.hh_term.specs.SourceExpressions.{nesting_of}
-use Rattle.hh_term.specs.SourceNesting.{largest, nesting_of_value, nesting_of_delay}
+use Rattle.module_tree.specs.declared.source.NameAt.{NameAt}
+use Rattle.module_tree.specs.declared.source.ExprAt.{ExprAt}
+use Rattle.module_tree.specs.declared.source.Binding.{Binding}
+use Rattle.module_tree.specs.declared.source.AsyncNode.{AsyncNode}
+use Rattle.module_tree.specs.declared.source.BlockNode.{BlockNode}
+use Rattle.module_tree.specs.declared.source.StatementNode.{StatementNode, roll-StatementNode}
+use Rattle.module_tree.specs.declared.source.Statement.{Statement, roll-Statement}
+use Rattle.module_tree.specs.declared.source.Statement.TheVariants as s
+use Rattle.module_tree.specs.declared.source.Statement.TheOpen as layer
+use Rattle.module_tree.specs.declared.source.Statement.TheFolds.{fold-Statement, fold-StatementNode, fold-roll-StatementNode, fold-roll-Statement, map-Statement}
+use Rattle.module_tree.specs.declared.source.Delay.{Delay}
+use Rattle.module_tree.specs.SourceWords.{is_written_text}
+use Rattle.module_tree.specs.SourceForms as tests
+use Rattle.module_tree.specs.SourceForms.{fits_name, fits_expression, fits_binding, fits_delay, fits_async}
+use Rattle.module_tree.specs.SourceExpressions.{nesting_of}
+use Rattle.module_tree.specs.SourceNesting.{largest, nesting_of_value, nesting_of_delay}
 use Rattle.grammar.proofs.KindSets.{both as parts}
 use Rattle.module_token.specs.declared.keyword.Keyword.{Keyword}
 use Rattle.module_token.specs.declared.keyword.Keyword.TheVariants as w

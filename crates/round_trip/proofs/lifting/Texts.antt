@@ -4,20 +4,21 @@ use Rattle.std.specs.Prelude.{◌&&◌}
 use Rattle.std.specs.List.{AllByRecursion, list_all, list_any, flat_map}
 use Rattle.std.proofs.lemmas.Bool.{leb-true}
 use Rattle.hh_base.specs.declared.value.Kind.{Kind}
-use Rattle.hh_term.specs.declared.source.ExprAt.{ExprAt}
-use Rattle.hh_term.specs.declared.source.DeclNode.{DeclNode}
-use Rattle.hh_term.specs.declared.source.ParamNode.{ParamNode}
-use Rattle.hh_term.specs.declared.source.BodyNode.{BodyNode}
-use Rattle.hh_term.specs.declared.source.HostNode.{HostNode}
-use Rattle.hh_term.specs.declared.source.ModuleNode.{ModuleNode}
-use Rattle.hh_term.specs.declared.source.BlockNode.{BlockNode}
-use Rattle.hh_term.specs.declared.source.Top.{Top}
-use Rattle.hh_term.specs.declared.source.Top.TheVariants as top
-use Rattle.hh_term.specs.SourceForms.{is_valued, fits_decl, fits_param, fits_top}
-use Rattle.hh_term.specs.SourceExpressions.{nesting_of}
-use Rattle.hh_term.specs.SourceNesting.{nesting_of_top}
-use Rattle.hh_term.specs.Source as source
-use Rattle.hh_term.specs.Source.{is_shallow, is_source}
+use Rattle.module_tree.specs.declared.source.ExprAt.{ExprAt}
+use Rattle.module_tree.specs.declared.source.DeclNode.{DeclNode}
+use Rattle.module_tree.specs.declared.source.ParamNode.{ParamNode}
+use Rattle.module_tree.specs.declared.source.BodyNode.{BodyNode}
+use Rattle.module_tree.specs.declared.source.HostNode.{HostNode}
+use Rattle.module_tree.specs.declared.source.ModuleNode.{ModuleNode}
+use Rattle.module_tree.specs.declared.source.BlockNode.{BlockNode}
+use Rattle.module_tree.specs.declared.source.Top.{Top}
+use Rattle.module_tree.specs.declared.source.Top.TheVariants as top
+use Rattle.hh_base.specs.Value.{is_valued}
+use Rattle.module_tree.specs.SourceForms.{fits_decl, fits_param, fits_top}
+use Rattle.module_tree.specs.SourceExpressions.{nesting_of}
+use Rattle.module_tree.specs.SourceNesting.{nesting_of_top}
+use Rattle.module_tree.specs.Source as source
+use Rattle.module_tree.specs.Source.{is_shallow, is_source}
 use Rattle.grammar.specs.Texts.{Within}
 use Rattle.grammar.proofs.KindSets.{both as parts}
 use Rattle.module_token.specs.Tokens.{Tok}

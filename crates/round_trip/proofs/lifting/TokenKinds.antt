@@ -11,7 +11,7 @@ use Rattle.unicode_ident.proofs.IdentLemmas.{is_xid_start-ascii}
 use Rattle.hh_base.specs.Keyword.{is_keyword}
 use Rattle.hh_base.specs.Name.{starts_word, is_word}
 use Rattle.hh_base.specs.Literal.{quoted}
-use Rattle.hh_term.specs.SourceWords.{is_written_name}
+use Rattle.module_tree.specs.SourceWords.{is_written_name}
 use Rattle.grammar.proofs.KindSets.{both as parts}
 use Rattle.module_token.specs.declared.keyword.Keyword.{Keyword}
 use Rattle.module_token.specs.declared.keyword.Keyword.TheVariants as k

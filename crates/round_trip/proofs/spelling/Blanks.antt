@@ -14,7 +14,7 @@ use Rattle.unicode_ident.specs.Ident.{is_xid_continue}
 use Rattle.unicode_ident.proofs.IdentLemmas.{is_xid_start-ascii, is_xid_continue-ascii}
 use Rattle.hh_base.specs.Keyword.{is_keyword}
 use Rattle.hh_base.specs.Name.{starts_word, is_word}
-use Rattle.hh_term.specs.SourceWords.{is_written_name}
+use Rattle.module_tree.specs.SourceWords.{is_written_name}
 use Rattle.module_token.specs.declared.keyword.Keyword.{Keyword}
 use Rattle.module_token.specs.declared.keyword.Keyword.TheVariants as k
 use Rattle.module_token.specs.declared.punct.Punct.{Punct}

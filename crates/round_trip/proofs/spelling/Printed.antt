@@ -2,14 +2,15 @@
 use Rattle.std.proofs.Common.{◌≡◌, ℕ, true, List, [], ◌∷◌, map}
 use Rattle.std.specs.List.{AllByRecursion, flat_map, list_all}
 use Rattle.std.specs.Str.{IsUtf8}
-use Rattle.hh_term.specs.declared.source.BodyNode.{BodyNode}
-use Rattle.hh_term.specs.declared.source.HostNode.{HostNode}
-use Rattle.hh_term.specs.declared.source.ModuleNode.{ModuleNode}
-use Rattle.hh_term.specs.declared.source.Top.{Top}
-use Rattle.hh_term.specs.declared.source.Top.TheVariants as top
-use Rattle.hh_term.specs.Source.{is_source}
-use Rattle.hh_term.specs.SourceForms.{is_valued, fits_decl, fits_param, fits_top}
-use Rattle.hh_term.specs.SourceWords.{is_written_name}
+use Rattle.module_tree.specs.declared.source.BodyNode.{BodyNode}
+use Rattle.module_tree.specs.declared.source.HostNode.{HostNode}
+use Rattle.module_tree.specs.declared.source.ModuleNode.{ModuleNode}
+use Rattle.module_tree.specs.declared.source.Top.{Top}
+use Rattle.module_tree.specs.declared.source.Top.TheVariants as top
+use Rattle.module_tree.specs.Source.{is_source}
+use Rattle.hh_base.specs.Value.{is_valued}
+use Rattle.module_tree.specs.SourceForms.{fits_decl, fits_param, fits_top}
+use Rattle.module_tree.specs.SourceWords.{is_written_name}
 use Rattle.module_token.specs.declared.keyword.Keyword.{Keyword}
 use Rattle.module_token.specs.declared.keyword.Keyword.TheVariants as k
 use Rattle.module_token.specs.declared.punct.Punct.TheVariants as p

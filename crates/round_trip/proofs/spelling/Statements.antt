@@ -2,13 +2,13 @@
 use Rattle.std.proofs.Common.{◌≡◌, ℕ, Bool, true, false, List, [], ◌∷◌, map, Some, None, sym, subst, ◌∙◌}
 use Rattle.std.specs.Prelude.{codes}
 use Rattle.std.specs.List.{list_all}
-use Rattle.hh_term.specs.declared.source.BlockNode.{BlockNode, roll-BlockNode}
-use Rattle.hh_term.specs.declared.source.StatementNode.{StatementNode, roll-StatementNode}
-use Rattle.hh_term.specs.declared.source.Statement.{Statement, roll-Statement}
-use Rattle.hh_term.specs.declared.source.Statement.TheOpen as s
-use Rattle.hh_term.specs.declared.source.Statement.TheFolds.{fold-Statement, fold-StatementNode, fold-roll-Statement, fold-roll-StatementNode, fold-roll-BlockNode, ind-BlockNode, map-Statement, map-StatementNode, map-BlockNode}
-use Rattle.hh_term.specs.SourceForms as tests
-use Rattle.hh_term.specs.SourceForms.{fits_sig, fits_block}
+use Rattle.module_tree.specs.declared.source.BlockNode.{BlockNode, roll-BlockNode}
+use Rattle.module_tree.specs.declared.source.StatementNode.{StatementNode, roll-StatementNode}
+use Rattle.module_tree.specs.declared.source.Statement.{Statement, roll-Statement}
+use Rattle.module_tree.specs.declared.source.Statement.TheOpen as s
+use Rattle.module_tree.specs.declared.source.Statement.TheFolds.{fold-Statement, fold-StatementNode, fold-roll-Statement, fold-roll-StatementNode, fold-roll-BlockNode, ind-BlockNode, map-Statement, map-StatementNode, map-BlockNode}
+use Rattle.module_tree.specs.SourceForms as tests
+use Rattle.module_tree.specs.SourceForms.{fits_sig, fits_block}
 use Rattle.module_token.specs.declared.keyword.Keyword.TheVariants as k
 use Rattle.module_token.specs.declared.punct.Punct.TheVariants as p
 use Rattle.module_printer.specs.ExpressionTokens.{Tokens}

@@ -7,8 +7,8 @@ use Rattle.std.proofs.lemmas.Bool.{leb-true}
 use Rattle.hh_base.specs.Keyword.{is_keyword}
 use Rattle.hh_base.specs.Literal.{quoted}
 use Rattle.hh_base.specs.Text.{IsText}
-use Rattle.hh_term.specs.SourceForms as tests
-use Rattle.hh_term.specs.SourceWords.{is_written_name, is_written_text}
+use Rattle.module_tree.specs.SourceForms as tests
+use Rattle.module_tree.specs.SourceWords.{is_written_name, is_written_text}
 use Rattle.module_token.specs.declared.keyword.Keyword.{Keyword}
 use Rattle.module_token.specs.declared.punct.Punct.{Punct}
 use Rattle.module_token.specs.declared.punct.Punct.TheVariants as p

@@ -8,8 +8,8 @@ use Rattle.host_expr.specs.declared.expr.Expr.{Expr}
 use Rattle.host_expr.specs.declared.expr.ExprNode.{ExprNode}
 use Rattle.host_expr.specs.declared.expr.ExprNode.TheOpen as e
 use Rattle.host_expr.specs.declared.expr.ExprNode.TheFolds.{fold-Expr, fold-ExprNode}
-use Rattle.hh_term.specs.declared.level.Level.{Level}
-use Rattle.hh_term.specs.declared.level.Level.TheVariants as level
+use Rattle.module_tree.specs.declared.level.Level.{Level}
+use Rattle.module_tree.specs.declared.level.Level.TheVariants as level
 
 abbrev pub rank_of : Level → ℕ
 rank_of level.Choose = 0

@@ -3,36 +3,25 @@
 -- This project's own.
 use Rattle.std.specs.Prelude.{ℕ, ◌&&◌, Bool, true, false, List, [], ◌∷◌, Option, Some, None, nat_le}
 use Rattle.std.specs.List.{list_all}
-use Rattle.hh_base.specs.declared.value.Kind.{Kind}
-use Rattle.hh_base.specs.declared.value.Kind.TheVariants as kind
-use Rattle.hh_term.specs.declared.program.Dir.{Dir}
-use Rattle.hh_term.specs.declared.program.Dir.TheVariants as dir
-use Rattle.hh_term.specs.declared.source.NameAt.{NameAt}
-use Rattle.hh_term.specs.declared.source.ExprAt.{ExprAt}
-use Rattle.hh_term.specs.declared.source.SigNode.{SigNode}
-use Rattle.hh_term.specs.declared.source.DeclNode.{DeclNode}
-use Rattle.hh_term.specs.declared.source.ParamNode.{ParamNode}
-use Rattle.hh_term.specs.declared.source.Binding.{Binding}
-use Rattle.hh_term.specs.declared.source.AsyncNode.{AsyncNode}
-use Rattle.hh_term.specs.declared.source.BlockNode.{BlockNode}
-use Rattle.hh_term.specs.declared.source.Statement.TheOpen as s
-use Rattle.hh_term.specs.declared.source.Statement.TheFolds.{fold-BlockNode}
-use Rattle.hh_term.specs.declared.source.Plain.{Plain}
-use Rattle.hh_term.specs.declared.source.Plain.TheVariants as plain
-use Rattle.hh_term.specs.declared.source.Delay.{Delay}
-use Rattle.hh_term.specs.declared.source.Delay.TheVariants as delay
-use Rattle.hh_term.specs.declared.source.Top.{Top}
-use Rattle.hh_term.specs.declared.source.Top.TheVariants as top
-use Rattle.hh_term.specs.SourceWords.{is_written_name, is_written_text, is_written_value}
-use Rattle.hh_term.specs.SourceExpressions.{is_written_expression}
-
-abbrev pub is_valued : Kind → Bool
-is_valued kind.Pure = false
-is_valued _ = true
-
-abbrev pub is_interface : Dir → Bool
-is_interface dir.Local = false
-is_interface _ = true
+use Rattle.hh_base.specs.Value.{is_valued, is_interface}
+use Rattle.module_tree.specs.declared.source.NameAt.{NameAt}
+use Rattle.module_tree.specs.declared.source.ExprAt.{ExprAt}
+use Rattle.module_tree.specs.declared.source.SigNode.{SigNode}
+use Rattle.module_tree.specs.declared.source.DeclNode.{DeclNode}
+use Rattle.module_tree.specs.declared.source.ParamNode.{ParamNode}
+use Rattle.module_tree.specs.declared.source.Binding.{Binding}
+use Rattle.module_tree.specs.declared.source.AsyncNode.{AsyncNode}
+use Rattle.module_tree.specs.declared.source.BlockNode.{BlockNode}
+use Rattle.module_tree.specs.declared.source.Statement.TheOpen as s
+use Rattle.module_tree.specs.declared.source.Statement.TheFolds.{fold-BlockNode}
+use Rattle.module_tree.specs.declared.source.Plain.{Plain}
+use Rattle.module_tree.specs.declared.source.Plain.TheVariants as plain
+use Rattle.module_tree.specs.declared.source.Delay.{Delay}
+use Rattle.module_tree.specs.declared.source.Delay.TheVariants as delay
+use Rattle.module_tree.specs.declared.source.Top.{Top}
+use Rattle.module_tree.specs.declared.source.Top.TheVariants as top
+use Rattle.module_tree.specs.SourceWords.{is_written_name, is_written_text, is_written_value}
+use Rattle.module_tree.specs.SourceExpressions.{is_written_expression}
 
 abbrev pub is_filled : {A : Type 0} → List A → Bool
 is_filled [] = false

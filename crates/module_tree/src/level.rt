@@ -1,7 +1,7 @@
 //! The levels of expressions.
 
 ghost use Rattle.std.specs.Prelude.{◌≡◌};
-ghost use Rattle.hh_term.specs.Parentheses.{rank_of, is_looser, level_of_op, right_of_op};
+ghost use Rattle.module_tree.specs.Parentheses.{rank_of, is_looser, level_of_op, right_of_op};
 
 use host_expr::expr::Op;
 

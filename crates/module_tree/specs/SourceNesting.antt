@@ -1,16 +1,16 @@
 -- How many `(` and `{` are open at once in a part of a module text. This project's own.
 use Rattle.std.specs.Prelude.{ℕ, suc, List, [], ◌∷◌, map, max, Option, Some, None}
-use Rattle.hh_term.specs.declared.source.BlockNode.{BlockNode}
-use Rattle.hh_term.specs.declared.source.Statement.TheOpen as s
-use Rattle.hh_term.specs.declared.source.Statement.TheFolds.{fold-BlockNode}
-use Rattle.hh_term.specs.declared.source.ExprAt.{ExprAt}
-use Rattle.hh_term.specs.declared.source.Plain.{Plain}
-use Rattle.hh_term.specs.declared.source.Plain.TheVariants as plain
-use Rattle.hh_term.specs.declared.source.Delay.{Delay}
-use Rattle.hh_term.specs.declared.source.Delay.TheVariants as delay
-use Rattle.hh_term.specs.declared.source.Top.{Top}
-use Rattle.hh_term.specs.declared.source.Top.TheVariants as top
-use Rattle.hh_term.specs.SourceExpressions.{nesting_of}
+use Rattle.module_tree.specs.declared.source.BlockNode.{BlockNode}
+use Rattle.module_tree.specs.declared.source.Statement.TheOpen as s
+use Rattle.module_tree.specs.declared.source.Statement.TheFolds.{fold-BlockNode}
+use Rattle.module_tree.specs.declared.source.ExprAt.{ExprAt}
+use Rattle.module_tree.specs.declared.source.Plain.{Plain}
+use Rattle.module_tree.specs.declared.source.Plain.TheVariants as plain
+use Rattle.module_tree.specs.declared.source.Delay.{Delay}
+use Rattle.module_tree.specs.declared.source.Delay.TheVariants as delay
+use Rattle.module_tree.specs.declared.source.Top.{Top}
+use Rattle.module_tree.specs.declared.source.Top.TheVariants as top
+use Rattle.module_tree.specs.SourceExpressions.{nesting_of}
 
 abbrev pub largest : List ℕ → ℕ
 largest [] = 0

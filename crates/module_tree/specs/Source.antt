@@ -1,10 +1,10 @@
 -- The source trees that some module text has, but for positions, said as tests on the tree. This project's own.
 use Rattle.std.specs.Prelude.{ℕ, ◌&&◌, Bool, true, false, List, nat_le}
 use Rattle.std.specs.List.{list_all, list_any}
-use Rattle.hh_term.specs.declared.source.Top.{Top}
-use Rattle.hh_term.specs.declared.source.Top.TheVariants as top
-use Rattle.hh_term.specs.SourceForms.{fits_top}
-use Rattle.hh_term.specs.SourceNesting.{nesting_of_top}
+use Rattle.module_tree.specs.declared.source.Top.{Top}
+use Rattle.module_tree.specs.declared.source.Top.TheVariants as top
+use Rattle.module_tree.specs.SourceForms.{fits_top}
+use Rattle.module_tree.specs.SourceNesting.{nesting_of_top}
 
 abbrev pub is_module : Top (List ℕ) → Bool
 is_module (top.Module m) = true

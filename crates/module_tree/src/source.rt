@@ -2,12 +2,11 @@
 //! it stands for once names are resolved. Each `pos` is the place of a node's first token, if nothing else is said.
 
 ghost use Rattle.std.specs.Prelude.{◌≡◌, true};
-ghost use Rattle.hh_term.specs.Source.{is_source};
+ghost use Rattle.module_tree.specs.Source.{is_source};
 
-use crate::program::Dir;
 use hh_base::name::Name;
 use hh_base::text::Text;
-use hh_base::value::{CombineWord, Kind, Pos, Value};
+use hh_base::value::{CombineWord, Dir, Kind, Pos, Value};
 use host_expr::expr::Expr;
 use sqlite_items::Items;
 use std::marker::Model;
@@ -171,12 +170,12 @@ pub struct Modules {
 
 impl Model for Modules {
     ghost use Rattle.std.specs.Prelude.{List, ℕ, ◌≡◌, true};
-    ghost use Rattle.hh_term.specs.declared.source.Top.{Top as ATop};
-    ghost use Rattle.hh_term.specs.Source.{is_source};
+    ghost use Rattle.module_tree.specs.declared.source.Top.{Top as ATop};
+    ghost use Rattle.module_tree.specs.Source.{is_source};
     ghost use Rattle.std.specs.Coded.{codes};
     ghost use Rattle.hh_base.specs.contracts.name.Name as name;
     ghost use Rattle.host_expr.specs.contracts.expr.ExprNode as node;
-    ghost use Rattle.hh_term.specs.contracts.source.BlockNode as block;
+    ghost use Rattle.module_tree.specs.contracts.source.BlockNode as block;
 
     ghost Value = { List (ATop (List ℕ)) };
 

@@ -3,8 +3,8 @@ use Rattle.std.specs.Prelude.{ℕ, suc, ◌+◌, ◌&&◌, Bool, true, List, nat
 use Rattle.host_expr.specs.declared.expr.Expr.{Expr}
 use Rattle.host_expr.specs.declared.expr.ExprNode.TheOpen as e
 use Rattle.host_expr.specs.declared.expr.ExprNode.TheFolds.{fold-Expr}
-use Rattle.hh_term.specs.Parentheses.{levelled}
-use Rattle.hh_term.specs.SourceWords.{is_written_name, is_written_number, is_written_text}
+use Rattle.module_tree.specs.Parentheses.{levelled}
+use Rattle.module_tree.specs.SourceWords.{is_written_name, is_written_number, is_written_text}
 
 -- by one layer, with what its parts gave in their places: whether a text can write its names, numbers and texts
 abbrev pub words_step : e.ExprNode-F (List ℕ) Bool Bool → Bool

@@ -1,0 +1,5 @@
+//! The tree of a module text, and the levels of its expressions.
+#![tactic(auto)]
+
+pub mod level;
+pub mod source;
