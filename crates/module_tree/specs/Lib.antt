@@ -4,3 +4,8 @@ pub mod SourceExpressions
 pub mod SourceNesting
 pub mod SourceForms
 pub mod Source
+pub mod Scopes
+pub mod Parts
+pub mod Callables
+pub mod Runs
+pub mod LinkedFacts

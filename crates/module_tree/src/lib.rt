@@ -2,4 +2,5 @@
 #![tactic(auto)]
 
 pub mod level;
+pub mod linked;
 pub mod source;
