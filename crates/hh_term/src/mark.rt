@@ -4,7 +4,7 @@ ghost use Rattle.std.specs.Prelude.{◌≡◌, IfOk};
 
 use crate::program::Program;
 use hh_base::item::{Item, Queue};
-use hh_base::value::{NoMemory, Value, Values};
+use hh_base::value::{NoMemory, Value, Values, copy_values};
 use std::alloc::Global;
 
 /// A running instance of an async statement: its id, the values of its arguments, the answers that entered
@@ -37,7 +37,7 @@ impl AsyncMark {
     {
         Ok(AsyncMark {
             id: self.id,
-            args: self.args.copy(alloc)?,
+            args: copy_values(alloc, self.args.as_slice())?,
             queue: self.queue.copy(alloc)?,
             suspended: self.suspended,
         })
