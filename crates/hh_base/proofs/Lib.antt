@@ -1,3 +1,4 @@
 pub mod Integers
+pub mod Queues
 pub mod Quotes
 pub mod Utf8

@@ -1,8 +1,8 @@
 //! What all crates speak of: kinds, values, names and the words of a command line.
 #![tactic(auto)]
 
+pub mod command_line;
 pub mod item;
-pub mod keyword;
 pub mod literal;
 pub mod memory;
 pub mod name;
@@ -10,4 +10,3 @@ pub mod name;
 mod tests;
 pub mod text;
 pub mod value;
-pub mod words;

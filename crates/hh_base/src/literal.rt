@@ -1,10 +1,14 @@
 //! Literals of values.
-ghost use Rattle.std.specs.Prelude.{◌≡◌, ℕ, ℤ, List, [], ◌∷◌, ◌++◌, true, Some, take, option_map, IfOk, IfSome, IsSomeAnd, IfNone, MatchResult, OnOk, OnErr, IsTrue, ◌↔◌, slice_index};
+ghost use Rattle.std.specs.Prelude.{◌≡◌, ℕ, ℤ, List, [], ◌∷◌, ◌++◌, true, Some, take, option_map, IfOk};
+ghost use Rattle.std.specs.Prelude.{IfSome, IsSomeAnd, IfNone, MatchResult, OnOk, OnErr, IsTrue, ◌↔◌};
+ghost use Rattle.std.specs.Prelude.{slice_index};
 ghost use Rattle.std.specs.Fmt.{signed_decimal};
 ghost use Rattle.std.specs.List.{flat_map};
 ghost use Rattle.std.specs.String.{string_bytes};
+ghost use Rattle.hh_base.specs.Bytes.{plus, quote};
 ghost use Rattle.hh_base.specs.Text.{has_text_bytes, IsText};
-ghost use Rattle.hh_base.specs.Literal.{IsWord, IsInteger, IsLiteral, escaped, quoted, printed, escape_of, after_backslash, next_byte};
+ghost use Rattle.hh_base.specs.Literal.{IsWord, IsInteger, IsLiteral, escaped, quoted, printed};
+ghost use Rattle.hh_base.specs.Literal.{escape_of, after_backslash, next_byte};
 ghost use Rattle.hh_base.specs.declared.literal.LiteralFault.TheVariants as literal_fault;
 ghost use Rattle.hh_base.specs.declared.value.Value.{Value as AValue};
 
@@ -32,7 +36,7 @@ impl From<NoMemory> for LiteralFault {
 }
 
 fn begins_with_plus(bytes: &[u8]) -> bool
-    ensures { IsTrue result ↔ (slice_index bytes.now 0 ≡ 43) }
+    ensures { IsTrue result ↔ (slice_index bytes.now 0 ≡ plus) }
 {
     !bytes.is_empty() && bytes[0] == b'+'
 }
@@ -52,10 +56,10 @@ fn read_integer(text: &str) -> Option<i64>
 }
 
 /// The byte that an escape stands for, by what follows its backslash.
-fn escape_of(mark: u8) -> Option<u8>
-    ensures { result ≡ escape_of mark }
+fn escape_of(letter: u8) -> Option<u8>
+    ensures { result ≡ escape_of letter }
 {
-    match mark {
+    match letter {
         b'"' => Some(b'"'),
         b'\\' => Some(b'\\'),
         b'n' => Some(b'\n'),
@@ -67,8 +71,8 @@ fn escape_of(mark: u8) -> Option<u8>
 fn after_backslash(text: &[u8]) -> Option<(u8, &[u8])>
     ensures { option_map (λ p. (p.0, p.1.now)) result ≡ after_backslash text.now }
 {
-    let (mark, rest) = text.split_first()?;
-    let byte = escape_of(*mark)?;
+    let (letter, rest) = text.split_first()?;
+    let byte = escape_of(*letter)?;
     Some((byte, rest))
 }
 
@@ -80,14 +84,14 @@ fn next_byte(text: &[u8]) -> Option<(u8, &[u8])>
     if *first == b'\\' {
         return after_backslash(rest);
     }
-    if *first < 32 || *first == b'"' {
+    if *first < b' ' || *first == b'"' {
         return None;
     }
     Some((*first, rest))
 }
 
 fn is_quote(text: &[u8]) -> bool
-    ensures { IsTrue result ↔ (text.now ≡ 34 ∷ []) }
+    ensures { IsTrue result ↔ (text.now ≡ quote ∷ []) }
 {
     text == b"\"".as_slice()
 }
@@ -95,9 +99,9 @@ fn is_quote(text: &[u8]) -> bool
 /// The bytes of the text that stands between quotes, given what follows the first quote.
 fn unquoted(alloc: Global, text: &[u8]) -> Result<Option<Vec<u8>>, NoMemory>
     ensures found { IfOk result (λ o. IfSome o (λ v. (has_text_bytes v.items ≡ true)
-        × (text.now ≡ flat_map escaped v.items ++ 34 ∷ []))) }
+        × (text.now ≡ flat_map escaped v.items ++ quote ∷ []))) }
     ensures only { IfOk result (λ o. (t : List ℕ) → has_text_bytes t ≡ true
-        → text.now ≡ flat_map escaped t ++ 34 ∷ [] → IsSomeAnd o (λ v. v.items ≡ t)) }
+        → text.now ≡ flat_map escaped t ++ quote ∷ [] → IsSomeAnd o (λ v. v.items ≡ t)) }
 {
     let mut bytes = Vec::new(alloc);
     let mut rest = text;

@@ -1,5 +1,6 @@
 //! Names of signals, modules, bodies and traps.
-ghost use Rattle.std.specs.Prelude.{◌≡◌, ◌<◌, ◌≤◌, ◌↔◌, ◌||◌, ◌==◌, length, true, false, IsTrue, IfOk, OnOk, IsErrOf};
+ghost use Rattle.std.specs.Prelude.{◌≡◌, ◌<◌, ◌≤◌, ◌↔◌, ◌||◌, ◌==◌, length, true, false, IsTrue, IfOk};
+ghost use Rattle.std.specs.Prelude.{OnOk, IsErrOf};
 ghost use Rattle.std.specs.List.{list_all};
 ghost use Rattle.std.specs.Str.{chars};
 ghost use Rattle.unicode_ident.specs.Ident.{is_xid_continue};
@@ -19,7 +20,7 @@ pub const NAME_LIMIT: usize = 255;
 pub enum NameFault {
     #[error("not an identifier")]
     NotName,
-    #[error("more than 255 bytes")]
+    #[error("longer than a name may be")]
     NameLong,
     #[error("memory ran out")]
     NoMemory,
@@ -33,7 +34,7 @@ impl From<AllocError> for NameFault {
     }
 }
 
-/// A name: an identifier of 1 to 255 bytes. Contracts see its bytes. Keywords are names here.
+/// A name: an identifier of 1 to `NAME_LIMIT` bytes. Contracts see its bytes. Keywords are names here.
 #[derive(Drop)]
 pub struct Name {
     string: String,
@@ -77,13 +78,13 @@ pub fn is_word(text: &str) -> bool
 }
 
 impl Name {
-    /// The name that the text is.
+    /// The name that the text is. A text that is no word is `NotName`, however long it is.
     pub fn read(alloc: Global, text: &str) -> Result<Name, NameFault>
         ensures ok { IfOk result (λ n. n ≡ text.now) }
         ensures valid { OnOk result (IsName text.now) }
         ensures not_name { IsErrOf result NameFault.NotName ↔ (is_word (chars text.now) ≡ false) }
         ensures long { IsErrOf result NameFault.NameLong
-            ↔ ((is_word (chars text.now) ≡ true) × (255 < length text.now)) }
+            ↔ ((is_word (chars text.now) ≡ true) × (NAME_LIMIT < length text.now)) }
     {
         if !is_word(text) {
             return Err(NameFault::NotName);
@@ -96,6 +97,7 @@ impl Name {
         })
     }
 
+    /// The name as it is written.
     pub fn as_str(&self) -> &str
         ensures text { result.now ≡ self.now }
         ensures valid { IsName self.now }
@@ -103,6 +105,7 @@ impl Name {
         self.string.as_str()
     }
 
+    /// The bytes of the name.
     pub fn as_bytes(&self) -> &[u8]
         ensures bytes { result.now ≡ self.now }
         ensures valid { IsName self.now }
@@ -110,6 +113,7 @@ impl Name {
         self.string.as_bytes()
     }
 
+    /// A name of its own with the same bytes.
     pub fn copy(&self, alloc: Global) -> Result<Name, NoMemory>
         ensures { IfOk result (λ n. n ≡ self.now) }
     {

@@ -1,11 +1,11 @@
 //! Each call that takes memory, once on its happy path.
 
-use crate::item::{Item, Items};
+use crate::command_line::CommandLine;
+use crate::item::{Item, Queue};
 use crate::literal::{LiteralFault, print_literal, read_literal};
-use crate::name::{Name, NameFault, same_name};
-use crate::text::{Text, TextFault, same_text};
-use crate::value::{Kind, Value, Values, default_of, same_value};
-use crate::words::Words;
+use crate::name::{NAME_LIMIT, Name, NameFault, same_name};
+use crate::text::{TEXT_LIMIT, Text, TextFault, same_text};
+use crate::value::{Kind, Value, copy_values, default_of, same_value};
 use std::test::Fail;
 
 #[test]
@@ -14,20 +14,13 @@ fn texts(rt: HostRuntime) -> Result<(), Fail> {
     let copy = text.copy(rt.alloc())?;
     assert!(rt; same_text(&text, &copy));
     assert_eq!(rt; copy.as_str(), "tea\t\n");
+    let empty = Text::empty(rt.alloc());
+    assert!(rt; copy.len() + empty.len() <= TEXT_LIMIT);
+    assert_eq!(rt; copy.join(rt.alloc(), &empty)?.as_str(), "tea\t\n");
     assert!(rt; matches!(Text::read(rt.alloc(), b"\xff\x01"), Err(TextFault::NotUtf8)));
     assert!(rt; matches!(Text::read(rt.alloc(), b"\x01"), Err(TextFault::BadByte)));
-    let long = vec![in rt.alloc(); b'a'; 4097]?;
+    let long = vec![in rt.alloc(); b'a'; TEXT_LIMIT + 1]?;
     assert!(rt; matches!(Text::read(rt.alloc(), &long), Err(TextFault::TextLong)));
-    Ok(())
-}
-
-#[test]
-fn joined_texts(rt: HostRuntime) -> Result<(), Fail> {
-    let tick = Text::read(rt.alloc(), b"tick")?;
-    let empty = Text::empty(rt.alloc());
-    assert!(rt; tick.len() + empty.len() <= 4096);
-    let joined = tick.join(rt.alloc(), &empty)?;
-    assert_eq!(rt; joined.as_str(), "tick");
     Ok(())
 }
 
@@ -38,7 +31,7 @@ fn names(rt: HostRuntime) -> Result<(), Fail> {
     assert!(rt; same_name(&name, &name.copy(rt.alloc())?));
     assert!(rt; matches!(Name::read(rt.alloc(), "2go"), Err(NameFault::NotName)));
     assert!(rt; matches!(Name::read(rt.alloc(), ""), Err(NameFault::NotName)));
-    let long = String::from_utf8(vec![in rt.alloc(); b'a'; 256]?);
+    let long = String::from_utf8(vec![in rt.alloc(); b'a'; NAME_LIMIT + 1]?);
     let Ok(long) = long else {
         return Ok(());
     };
@@ -52,27 +45,28 @@ fn names(rt: HostRuntime) -> Result<(), Fail> {
 }
 
 #[test]
-fn words(rt: HostRuntime) -> Result<(), Fail> {
-    let mut words = Words::new(rt.alloc());
-    words.push(rt.alloc(), "play")?;
-    words.push(rt.alloc(), "")?;
-    assert_eq!(rt; words.len(), 2);
-    assert_eq!(rt; words.get(0), Some("play"));
-    assert_eq!(rt; words.get(2), None);
-    Ok(())
-}
-
-#[test]
 fn lists(rt: HostRuntime) -> Result<(), Fail> {
-    let mut values = Values::new(rt.alloc());
-    values.push(Value::Int(-3))?;
-    let mut items = Items::new(rt.alloc());
-    items.push(Item {
-        value: default_of(rt.alloc(), Kind::Text),
-        last: true,
-    })?;
-    assert_eq!(rt; values.copy(rt.alloc())?.into_vec().len(), 1);
-    assert_eq!(rt; items.copy(rt.alloc())?.into_vec().len(), 1);
+    let mut line = CommandLine::new(rt.alloc());
+    line.push(rt.alloc(), "play")?;
+    line.push(rt.alloc(), "")?;
+    assert_eq!(rt; line.get(0), Some("play"));
+    assert_eq!(rt; line.get(2), None);
+    let values = [Value::Int(-3), default_of(rt.alloc(), Kind::Text)];
+    assert_eq!(rt; copy_values(rt.alloc(), &values)?.len(), 2);
+    let mut queue = Queue::new(rt.alloc());
+    let value = Value::Int(5);
+    assert!(rt; queue.try_push(Item { value, last: true }).is_ok());
+    let mut copy = queue.copy(rt.alloc())?;
+    assert!(rt;
+        matches!(
+            copy.pop(),
+            Some(Item {
+                value: Value::Int(5),
+                last: true
+            })
+        )
+    );
+    assert!(rt; copy.is_empty());
     Ok(())
 }
 

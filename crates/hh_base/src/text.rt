@@ -1,5 +1,6 @@
 //! Text values.
-ghost use Rattle.std.specs.Prelude.{◌≡◌, ◌+◌, ◌<◌, ◌≤◌, ◌↔◌, [], ◌++◌, length, true, false, IsTrue, IfOk, OnOk, OnErr, IsErrOf, MatchOption};
+ghost use Rattle.std.specs.Prelude.{◌≡◌, ◌+◌, ◌<◌, ◌≤◌, ◌↔◌, [], ◌++◌, length, true, false, IsTrue, IfOk};
+ghost use Rattle.std.specs.Prelude.{OnOk, OnErr, IsErrOf, MatchOption};
 ghost use Rattle.std.specs.Str.{is_utf8};
 ghost use Rattle.hh_base.specs.Text.{text_byte, has_text_bytes, IsText};
 ghost use Rattle.hh_base.specs.declared.text.TextFault.TheVariants.{NoMemory as OutOfMemory};
@@ -19,7 +20,7 @@ pub enum TextFault {
     NotUtf8,
     #[error("a control character other than TAB and LF")]
     BadByte,
-    #[error("more than 4,096 bytes")]
+    #[error("longer than a text may be")]
     TextLong,
     #[error("memory ran out")]
     NoMemory,
@@ -33,7 +34,7 @@ impl From<AllocError> for TextFault {
     }
 }
 
-/// A text value: UTF-8 of at most 4,096 bytes with no control characters other than TAB and LF.
+/// A text value: UTF-8 of at most `TEXT_LIMIT` bytes with no control characters other than TAB and LF.
 /// Contracts see its bytes.
 #[derive(Drop)]
 pub struct Text {
@@ -56,7 +57,7 @@ impl Model for Text {
 fn is_text_byte(byte: u8) -> bool
     ensures { result ≡ text_byte byte }
 {
-    byte >= 0x20 || byte == b'\t' || byte == b'\n'
+    byte >= b' ' || byte == b'\t' || byte == b'\n'
 }
 
 fn has_text_bytes(bytes: &[u8]) -> bool
@@ -78,7 +79,7 @@ fn as_utf8(bytes: &[u8]) -> Option<&str>
 }
 
 impl Text {
-    /// The text that the bytes are.
+    /// The text that the bytes are. Of several faults the first in the order of `TextFault` is answered.
     pub fn read(alloc: Global, bytes: &[u8]) -> Result<Text, TextFault>
         ensures ok { IfOk result (λ t. t ≡ bytes.now) }
         ensures valid { OnOk result (IsText bytes.now) }
@@ -86,7 +87,8 @@ impl Text {
         ensures bad_byte { IsErrOf result TextFault.BadByte
             ↔ ((is_utf8 bytes.now ≡ true) × (has_text_bytes bytes.now ≡ false)) }
         ensures long { IsErrOf result TextFault.TextLong
-            ↔ ((is_utf8 bytes.now ≡ true) × (has_text_bytes bytes.now ≡ true) × (4096 < length bytes.now)) }
+            ↔ ((is_utf8 bytes.now ≡ true) × (has_text_bytes bytes.now ≡ true)
+            × (TEXT_LIMIT < length bytes.now)) }
     {
         let Some(text) = as_utf8(bytes) else {
             return Err(TextFault::NotUtf8);
@@ -111,12 +113,14 @@ impl Text {
         }
     }
 
+    /// The text as UTF-8.
     pub fn as_str(&self) -> &str
         ensures { result.now ≡ self.now }
     {
         self.string.as_str()
     }
 
+    /// The bytes of the text.
     pub fn as_bytes(&self) -> &[u8]
         ensures { result.now ≡ self.now }
     {
@@ -131,6 +135,7 @@ impl Text {
         self.string.len()
     }
 
+    /// A text of its own with the same bytes.
     pub fn copy(&self, alloc: Global) -> Result<Text, NoMemory>
         ensures { IfOk result (λ t. t ≡ self.now) }
     {
@@ -141,7 +146,7 @@ impl Text {
 
     /// The one text followed by the other.
     pub fn join(&self, alloc: Global, other: &Text) -> Result<Text, NoMemory>
-        requires { length self.now + length other.now ≤ 4096 }
+        requires { length self.now + length other.now ≤ TEXT_LIMIT }
         ensures { IfOk result (λ t. t ≡ self.now ++ other.now) }
     {
         let mut string = String::from_str(alloc, self.string.as_str())?;
@@ -151,7 +156,7 @@ impl Text {
 
     /// Adds the other text at the end, in amortized time of the other. After an Err it is as before.
     pub fn append(&mut self, other: &Text) -> Result<(), NoMemory>
-        requires { length self.old + length other.now ≤ 4096 }
+        requires { length self.old + length other.now ≤ TEXT_LIMIT }
         ensures ok { OnOk result (self.new ≡ self.old ++ other.now) }
         ensures err { OnErr result (self.new ≡ self.old) }
     {

@@ -1,11 +1,10 @@
 //! Kinds and values of signals.
-ghost use Rattle.std.specs.Prelude.{◌≡◌, ◌∷◌, ◌++◌, [], ◌<◌, ◌↔◌, length, take, slice_get, IsTrue, IfOk, OnOk, OnErr};
-ghost use Rattle.std.specs.Option.{option_copied};
+ghost use Rattle.std.specs.Prelude.{◌≡◌, ◌↔◌, IsTrue, IfOk};
 ghost use Rattle.hh_base.specs.Value.{kind_of, default_of};
 
 use crate::text::{Text, same_text};
+use sqlite_items::Items;
 use std::alloc::Global;
-use std::marker::Model;
 
 /// A place in the input: the number of bytes before it.
 #[derive(Clone, Copy, PartialEq, Eq, PartialOrd, Ord, Debug)]
@@ -53,6 +52,7 @@ impl Value {
         }
     }
 
+    /// A value of its own that is the same.
     pub fn copy(&self, alloc: Global) -> Result<Value, NoMemory>
         ensures { IfOk result (λ v. v ≡ self.now) }
     {
@@ -117,84 +117,15 @@ pub enum Tri {
 }
 
 /// Values in order. Contracts see the list.
-#[derive(Drop)]
-pub struct Values {
-    values: Vec<Value>,
-}
+pub type Values = Items<Value>;
 
-impl Model for Values {
-    ghost use Rattle.std.specs.Prelude.{List};
-    ghost use Rattle.hh_base.specs.declared.value.Value.{Value as AValue};
-
-    ghost Value = { List AValue };
-
-    ghost view = { λ v. v.values.items };
-}
-
-impl Values {
-    pub fn new(alloc: Global) -> Values
-        ensures { result ≡ [] }
-    {
-        Values {
-            values: Vec::new(alloc),
-        }
+/// A copy of the values, in their order.
+pub fn copy_values(alloc: Global, values: &[Value]) -> Result<Values, NoMemory>
+    ensures { IfOk result (λ v. v ≡ values.now) }
+{
+    let mut copies = Vec::with_capacity(alloc, values.len())?;
+    for value in values {
+        copies.push(value.copy(alloc)?)?;
     }
-
-    /// Takes no memory.
-    pub fn from_vec(values: Vec<Value>) -> Values
-        ensures { result ≡ values.items }
-    {
-        Values { values }
-    }
-
-    /// Takes no memory.
-    pub fn into_vec(self) -> Vec<Value>
-        ensures { result.items ≡ self }
-    {
-        self.values
-    }
-
-    /// Adds a value at the end.
-    pub fn push(&mut self, value: Value) -> Result<(), NoMemory>
-        ensures ok { OnOk result (self.new ≡ self.old ++ value ∷ []) }
-        ensures err { OnErr result (self.new ≡ self.old) }
-    {
-        self.values.push(value)?;
-        Ok(())
-    }
-
-    pub fn len(&self) -> usize
-        ensures { result ≡ length self.now }
-    {
-        self.values.len()
-    }
-
-    pub fn is_empty(&self) -> bool
-        ensures { IsTrue result ↔ (self.now ≡ []) }
-    {
-        self.values.is_empty()
-    }
-
-    pub fn as_slice(&self) -> &[Value]
-        ensures { result.now ≡ self.now }
-    {
-        self.values.as_slice()
-    }
-
-    /// The value at this place, or None past the end.
-    pub fn get(&self, at: usize) -> Option<&Value>
-        ensures { option_copied result ≡ slice_get self.now at }
-    {
-        self.values.get(at)
-    }
-
-    pub fn copy(&self, alloc: Global) -> Result<Values, NoMemory>
-        ensures { IfOk result (λ v. v ≡ self.now) }
-    {
-        let mut values = Vec::with_capacity(alloc, self.values.len())?;
-        for value in &self.values {
-            values.push(value.copy(alloc)?)?;
-        }
-        Ok(Values { values })
-    }
+    Ok(Items::from_vec(copies))
 }

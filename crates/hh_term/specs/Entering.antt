@@ -1,14 +1,11 @@
 -- An answer enters the mark of its instance. (This project's own, after the answers of HipHop.js's async.)
-use Rattle.std.specs.Prelude.{◌≡◌, ℕ, ◌-◌, Bool, false, not, cond, ◌&&◌, ◌==◌, Option, Some, None, IsSome, Result, Ok, Err, List, [], ◌∷◌, ◌++◌, length, slice_get, option_map}
+use Rattle.std.specs.Prelude.{◌≡◌, ℕ, Bool, not, cond, ◌&&◌, ◌==◌, Option, Some, None, IsSome, Result, Ok, Err, List, [], ◌∷◌, ◌++◌, option_map}
 use Rattle.hh_base.specs.declared.item.Item.{Item}
+use Rattle.hh_base.specs.Queue.{ends_with_last}
 use Rattle.hh_term.specs.declared.mark.AsyncMark.{AsyncMark}
 use Rattle.hh_term.specs.declared.mark.MarkEnd.{MarkEnd}
 use Rattle.hh_term.specs.declared.mark.MarkEnd.TheVariants.{Refused, NoMemory}
 use Rattle.hh_term.specs.Selection.{Selection, AtPause, AtAsync, First, Second, Both, Inside, Scope, Control, At}
-
--- the queue ends with a last item
-abbrev pub ends_with_last : List Item → Bool
-ends_with_last queue = (elim (slice_get queue (length queue - 1)) [ Some a ↦ a.last | None ↦ false ])
 
 -- an async mark with this id takes the item
 abbrev pub takes : ℕ → ℕ → List Item → Bool

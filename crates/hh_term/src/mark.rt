@@ -3,8 +3,8 @@
 ghost use Rattle.std.specs.Prelude.{◌≡◌, IfOk};
 
 use crate::program::Program;
-use hh_base::item::{Item, Items};
-use hh_base::value::{NoMemory, Value, Values};
+use hh_base::item::{Item, Queue};
+use hh_base::value::{NoMemory, Value, Values, copy_values};
 use std::alloc::Global;
 
 /// A running instance of an async statement: its id, the values of its arguments, the answers that entered
@@ -13,26 +13,17 @@ use std::alloc::Global;
 pub struct AsyncMark {
     pub id: u64,
     pub args: Values,
-    pub queue: Items,
+    pub queue: Queue,
     pub suspended: bool,
 }
 
 impl AsyncMark {
-    ghost use Rattle.hh_term.specs.Entering.{ends_with_last, async_with_item, Enters};
-
-    fn ends_with_last(&self) -> bool
-        ensures { result ≡ ends_with_last self.now.queue }
-    {
-        match self.queue.as_slice().last() {
-            Some(item) => item.last,
-            None => false,
-        }
-    }
+    ghost use Rattle.hh_term.specs.Entering.{async_with_item, Enters};
 
     fn enter(&mut self, id: u64, item: Item) -> Result<(), MarkEnd>
         ensures { Enters (async_with_item id item self.old) self.old item result self.new }
     {
-        if self.id != id || self.ends_with_last() {
+        if self.id != id || self.queue.ends_with_last() {
             return Err(MarkEnd::Refused(item));
         }
         match self.queue.try_push(item) {
@@ -46,7 +37,7 @@ impl AsyncMark {
     {
         Ok(AsyncMark {
             id: self.id,
-            args: self.args.copy(alloc)?,
+            args: copy_values(alloc, self.args.as_slice())?,
             queue: self.queue.copy(alloc)?,
             suspended: self.suspended,
         })

@@ -1,8 +1,8 @@
 //! The program `hiphop`: its words, standard input and standard output, given to the library's call.
 #![tactic(auto)]
 
+use hh_base::command_line::CommandLine;
 use hh_base::memory::NoMemory;
-use hh_base::words::Words;
 use hh_io::standard::{StdSink, StdSource};
 use hiphop_main::command::hiphop;
 use std::process::ExitCode;
@@ -13,8 +13,8 @@ use std::{env, io};
 const NO_MEMORY: u8 = 5;
 
 /// The words behind the program's name. Words that are not UTF-8 are no command, so they are left out whole.
-fn words_of(rt: &(impl Env + AllocGlobal)) -> Result<Words, NoMemory> {
-    let mut words = Words::new(rt.alloc());
+fn words_of(rt: &(impl Env + AllocGlobal)) -> Result<CommandLine, NoMemory> {
+    let mut words = CommandLine::new(rt.alloc());
     let args = match env::args(rt) {
         Ok(args) => args,
         Err(error) if error.kind() == io::ErrorKind::OutOfMemory => return Err(NoMemory),

@@ -6,7 +6,7 @@ ghost use Rattle.hiphop_main.specs.Status.{status_of};
 
 use crate::ending::{Cause, Outcome};
 use crate::play::play;
-use hh_base::words::Words;
+use hh_base::command_line::CommandLine;
 use hh_io::sink::Sink;
 use hh_io::source::Source;
 use std::alloc::Global;
@@ -15,7 +15,7 @@ use std::alloc::Global;
 /// words with the usage line.
 pub fn hiphop<S: Source, K: Sink>(
     alloc: Global,
-    words: &Words,
+    words: &CommandLine,
     source: &mut S,
     sink: &mut K,
 ) -> Outcome

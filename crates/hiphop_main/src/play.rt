@@ -16,8 +16,8 @@ use crate::ending::{Cause, ModuleKind, Outcome};
 use crate::refusal::refusal_line;
 use crate::run::play_lines;
 use crate::script::{Script, ScriptFault, read_script};
+use hh_base::command_line::CommandLine;
 use hh_base::value::Pos;
-use hh_base::words::Words;
 use hh_io::fault::{PutEnd, ReadEnd};
 use hh_io::sink::{Sink, put_all};
 use hh_io::source::{Source, read_all};
@@ -27,7 +27,7 @@ use std::alloc::Global;
 const INPUT_LIMIT: usize = 16_777_216;
 
 /// Whether the words are those of the command.
-fn is_play(words: &Words) -> bool
+fn is_play(words: &CommandLine) -> bool
     ensures { IsTrue result ↔ IsPlay words.now }
 {
     let Some(word) = words.get(0) else {
@@ -84,7 +84,7 @@ fn play_input<K: Sink>(alloc: Global, input: &[u8], sink: &mut K) -> Cause
 /// Does what the words ask for, and answers how that ended.
 fn end_of_play<S: Source, K: Sink>(
     alloc: Global,
-    words: &Words,
+    words: &CommandLine,
     source: &mut S,
     sink: &mut K,
 ) -> Cause
@@ -106,7 +106,7 @@ fn end_of_play<S: Source, K: Sink>(
 /// scenario, or the line of the first refusal.
 pub fn play<S: Source, K: Sink>(
     alloc: Global,
-    words: &Words,
+    words: &CommandLine,
     source: &mut S,
     sink: &mut K,
 ) -> Outcome

@@ -5,7 +5,7 @@ ghost use Rattle.std.specs.Prelude.{◌≡◌, ◌≢◌};
 ghost use Rattle.hiphop_main.specs.Play.{IsLogText, IsPlay, IsUsageEnd};
 ghost use Rattle.hiphop_main.specs.Status.{status_of};
 
-use hh_base::words::Words;
+use hh_base::command_line::CommandLine;
 use hh_io::sure::{SureSink, SureSource};
 use hiphop_main::command::hiphop;
 use hiphop_main::ending::{Cause, Outcome};
@@ -27,7 +27,7 @@ pub struct InMemory {
 
 /// A call of `hiphop` over an input and an output that never fail. It ends neither with a read fault nor
 /// with a write fault. Where it is fine, the text is the print of the one legal log of the input.
-pub fn hiphop_in_memory(alloc: Global, words: &Words, input: Vec<u8>) -> InMemory
+pub fn hiphop_in_memory(alloc: Global, words: &CommandLine, input: Vec<u8>) -> InMemory
     ensures status { result.outcome.status ≡ status_of result.outcome.cause }
     ensures log { result.outcome.cause ≡ Cause.Fine → IsLogText input.items result.text.items }
     ensures usage_due { ¬ IsPlay words.now → IsUsageEnd result.outcome.cause }

@@ -1,7 +1,7 @@
 //! Whole calls, with expected texts worked out by hand.
 
 use crate::hiphop_in_memory;
-use hh_base::words::Words;
+use hh_base::command_line::CommandLine;
 use hh_io::memory::{MemSink, MemSource};
 use hiphop_main::command::hiphop;
 use hiphop_main::ending::Outcome;
@@ -28,7 +28,7 @@ fn call(
     read_fails: &[u64],
     write_fails: &[u64],
 ) -> Result<Played, Fail> {
-    let mut words = Words::new(alloc);
+    let mut words = CommandLine::new(alloc);
     words.push(alloc, word)?;
     let most = most.max(1);
     let mut source = MemSource::in_steps(
@@ -149,7 +149,7 @@ fn refuses_what_is_too_long(rt: HostRuntime) -> Result<(), Fail> {
 
 #[test]
 fn plays_in_memory(rt: HostRuntime) -> Result<(), Fail> {
-    let mut words = Words::new(rt.alloc());
+    let mut words = CommandLine::new(rt.alloc());
     words.push(rt.alloc(), "play")?;
     let input = Vec::from_slice(rt.alloc(), PAUSE.as_bytes())?;
     let played = hiphop_in_memory(rt.alloc(), &words, input);

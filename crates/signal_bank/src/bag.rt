@@ -36,7 +36,8 @@ impl Bag {
         ensures ok { OnOk result (self.new ≡ self.old ++ value ∷ []) }
         ensures err { OnErr result (self.new ≡ self.old) }
     {
-        self.values.push(value)
+        self.values.push(value)?;
+        Ok(())
     }
 
     /// How many emissions there are.

@@ -1,7 +1,7 @@
 //! An answer enters the mark of its instance.
 
 use super::{AsyncMark, Control, Mark, MarkEnd, Marked};
-use hh_base::item::{Item, Items};
+use hh_base::item::{Item, Queue};
 use hh_base::value::{Value, Values};
 use std::alloc::Global;
 use std::test::Fail;
@@ -10,7 +10,7 @@ fn instance(alloc: Global, id: u64) -> Mark {
     Mark::Async(AsyncMark {
         id,
         args: Values::new(alloc),
-        queue: Items::new(alloc),
+        queue: Queue::new(alloc),
         suspended: false,
     })
 }

@@ -7,7 +7,8 @@ use Rattle.hh_base.specs.Literal.{IsWord, IsInteger, IsLiteral, quoted}
 use Rattle.hh_base.proofs.literal.read_literal.Goals as goal
 
 -- what is neither a word nor an integer nor a quoted text is no literal
-no_literal : (bs : List ℕ) (v : Value) → (IsWord bs → ⊥) → ((n : ℤ) → IsInteger bs n → ⊥) → ((t : List ℕ) → IsText t → bs ≡ quoted t → ⊥) → IsLiteral bs v → ⊥
+no_literal : (bs : List ℕ) (v : Value) → (IsWord bs → ⊥) → ((n : ℤ) → IsInteger bs n → ⊥)
+    → ((t : List ℕ) → IsText t → bs ≡ quoted t → ⊥) → IsLiteral bs v → ⊥
 no_literal bs value.Unit word integer text h = word (inl h)
 no_literal bs (value.Int n) word integer text h = integer n h
 no_literal bs (value.Bool true) word integer text h = word (inr (inl h))
@@ -19,6 +20,10 @@ not_both o x p q = cc
 
 pub returns-in-None-clause-only : goal.returns-in-None-clause-only
 returns-in-None-clause-only c v h =
-    let no_integer = λ (n : ℤ) (is : IsInteger c.args.text.now n). not_both _ n c.in_default-read_integer.is (c.read_integer.ensures.only n is) in
-    let no_text = λ (t : List ℕ) (plain : IsText t) (is : c.args.text.now ≡ quoted t). not_both _ t c.in-None.is (c.in_ok-text.ensures.only t plain (c.as_bytes.ensures.value ∙ is)) in
+    let no_integer =
+    λ (n : ℤ) (is : IsInteger c.args.text.now n). not_both _ n c.in_default-read_integer.is
+    (c.read_integer.ensures.only n is) in
+    let no_text =
+    λ (t : List ℕ) (plain : IsText t) (is : c.args.text.now ≡ quoted t). not_both _ t c.in-None.is
+    (c.in_ok-text.ensures.only t plain (c.as_bytes.ensures.value ∙ is)) in
     absurd (no_literal c.args.text.now v c.in_default.ensures.none no_integer no_text h)

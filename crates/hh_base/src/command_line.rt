@@ -6,13 +6,13 @@ use crate::memory::NoMemory;
 use std::alloc::Global;
 use std::marker::Model;
 
-/// The words of a command line, in order. Contracts see the list of their bytes.
+/// The words behind a program's name, in order. Contracts see the list of their bytes.
 #[derive(Drop)]
-pub struct Words {
+pub struct CommandLine {
     words: Vec<String>,
 }
 
-impl Model for Words {
+impl Model for CommandLine {
     ghost use Rattle.std.specs.Prelude.{List, ℕ, map};
     ghost use Rattle.std.specs.String.{string_bytes};
 
@@ -21,16 +21,17 @@ impl Model for Words {
     ghost view = { λ w. map string_bytes w.words.items };
 }
 
-impl Words {
-    pub fn new(alloc: Global) -> Words
+impl CommandLine {
+    /// A command line with no word.
+    pub fn new(alloc: Global) -> CommandLine
         ensures { result ≡ [] }
     {
-        Words {
+        CommandLine {
             words: Vec::new(alloc),
         }
     }
 
-    /// Adds a word at the end.
+    /// Adds a copy of the word at the end.
     pub fn push(&mut self, alloc: Global, word: &str) -> Result<(), NoMemory>
         ensures ok { OnOk result (self.new ≡ self.old ++ word.now ∷ []) }
         ensures err { OnErr result (self.new ≡ self.old) }
@@ -40,19 +41,21 @@ impl Words {
         Ok(())
     }
 
+    /// How many words there are.
     pub fn len(&self) -> usize
         ensures { result ≡ length self.now }
     {
         self.words.len()
     }
 
+    /// Whether there is no word.
     pub fn is_empty(&self) -> bool
         ensures { IsTrue result ↔ (self.now ≡ []) }
     {
         self.words.is_empty()
     }
 
-    /// The word at this place, or None past the end.
+    /// The word at this place, counted from 0, or None past the end.
     pub fn get(&self, at: usize) -> Option<&str>
         ensures { option_copied result ≡ slice_get self.now at }
     {
