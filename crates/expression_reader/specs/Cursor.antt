@@ -8,7 +8,7 @@ use Rattle.module_token.specs.declared.token.Token.{Token}
 use Rattle.module_token.specs.declared.token.TokenKind.{TokenKind}
 use Rattle.module_token.specs.declared.token.TokenKind.TheVariants as kind
 use Rattle.expression_reader.specs.declared.terminal.Terminal.{Terminal}
-use Rattle.expression_reader.specs.declared.words.Words.TheInside.{Inside}
+use Rattle.expression_reader.specs.declared.tokens_left.TokensLeft.TheInside.{Inside}
 use Rattle.expression_reader.specs.Terminals.{terminal, is_name}
 
 abbrev pub value_of : TokenKind → ℕ

@@ -15,8 +15,8 @@ use Rattle.grammar.specs.Language as language
 use Rattle.grammar.specs.Language.{◌>>=◌, ◌>>◌, pure, ◌or◌, many, nothing}
 use Rattle.expression_reader.specs.declared.terminal.Terminal.{Terminal}
 use Rattle.expression_reader.specs.declared.terminal.Terminal.TheVariants as terminal
-use Rattle.expression_reader.specs.declared.operator.Level.{Level}
-use Rattle.expression_reader.specs.declared.operator.Level.TheVariants as level
+use Rattle.expression_reader.specs.declared.operator.Grouping.{Grouping}
+use Rattle.expression_reader.specs.declared.operator.Grouping.TheVariants as grouping
 use Rattle.expression_reader.specs.declared.operator.Operator.{Operator}
 use Rattle.expression_reader.specs.declared.operator.Operator.TheVariants as sign
 use Rattle.expression_reader.specs.declared.operator.Access.{Access}
@@ -99,18 +99,18 @@ in_curly part room = language.opened room (terminal.Punct mark.LeftBrace) (λ le
 abbrev pub largest : ℕ
 largest = 2 ^ 63 - 1
 
-abbrev pub integer : Lang (Expr Name)
-integer = do
+abbrev pub number_leaf : Lang (Expr Name)
+number_leaf = do
   written ← language.counted (number 0 largest)
   pure (node written.0 (leaf.Int (pos written.1)))
 
-abbrev pub truth : Keyword → Bool → Lang (Expr Name)
-truth which value = do
-  place ← language.mark (terminal.Keyword which)
+abbrev pub truth_leaf : Keyword → Bool → Lang (Expr Name)
+truth_leaf which value = do
+  place ← language.counted_token (terminal.Keyword which)
   pure (node place (leaf.Bool value))
 
-abbrev pub text : Lang (Expr Name)
-text = do
+abbrev pub text_leaf : Lang (Expr Name)
+text_leaf = do
   written ← language.counted quoted
   pure (node written.0 (leaf.Text written.1))
 
@@ -129,42 +129,42 @@ behind_dot = do
   access
 
 -- name [ "." word ], which is one leaf
-abbrev pub signal : Lang (Expr Name)
-signal = do
+abbrev pub name_leaf : Lang (Expr Name)
+name_leaf = do
   read ← language.counted name
   what ← behind_dot or pure reading.Parameter
   pure (node read.0 (accessed what read.1))
 
 -- atom = number | "true" | "false" | quoted | name [ "." word ] | "(" expr ")"
-abbrev pub atom : Lang (Expr Name) → Lang (Expr Name)
-atom inside = integer or truth word.True true or truth word.False false or text or signal or inside
+abbrev pub operand : Lang (Expr Name) → Lang (Expr Name)
+operand inside = number_leaf or truth_leaf word.True true or truth_leaf word.False false or text_leaf or name_leaf or inside
 
 abbrev pub negated : Lang (Expr Name) → Lang (Expr Name)
 negated inside = do
-  place ← language.mark (terminal.Punct mark.Not)
-  operand ← atom inside
+  place ← language.counted_token (terminal.Punct mark.Not)
+  operand ← operand inside
   pure (node place (leaf.Not operand))
 
 abbrev pub negative : Lang (Expr Name) → Lang (Expr Name)
 negative inside = do
-  place ← language.mark (terminal.Punct mark.Minus)
-  operand ← atom inside
+  place ← language.counted_token (terminal.Punct mark.Minus)
+  operand ← operand inside
   pure (node place (leaf.Neg operand))
 
 -- unary = [ "!" | "-" ] atom
-abbrev pub unary : Lang (Expr Name) → Lang (Expr Name)
-unary inside = negated inside or negative inside or atom inside
+abbrev pub factor : Lang (Expr Name) → Lang (Expr Name)
+factor inside = negated inside or negative inside or operand inside
 
 abbrev pub binary : Punct → Operator → Lang (ℕ × Operator)
 binary which operator = do
-  place ← language.mark (terminal.Punct which)
+  place ← language.counted_token (terminal.Punct which)
   pure (place, operator)
 
-abbrev pub operator : Level → Lang (ℕ × Operator)
-operator level.Or = binary mark.Or sign.Or
-operator level.And = binary mark.And sign.And
-operator level.Sum = binary mark.Plus (sign.Arith op.Add) or binary mark.Minus (sign.Arith op.Sub)
-operator level.Product = binary mark.Star (sign.Arith op.Mul) or binary mark.Slash (sign.Arith op.Div) or binary mark.Percent (sign.Arith op.Rem)
+abbrev pub operator : Grouping → Lang (ℕ × Operator)
+operator grouping.Either = binary mark.Or sign.Or
+operator grouping.Both = binary mark.And sign.And
+operator grouping.Sum = binary mark.Plus (sign.Arith op.Add) or binary mark.Minus (sign.Arith op.Sub)
+operator grouping.Product = binary mark.Star (sign.Arith op.Mul) or binary mark.Slash (sign.Arith op.Div) or binary mark.Percent (sign.Arith op.Rem)
 
 abbrev pub relation : Lang (ℕ × Operator)
 relation =
@@ -174,25 +174,25 @@ relation =
 
 -- an operator, and the operand behind it
 abbrev pub term : Lang (ℕ × Operator) → Lang (Expr Name) → Lang Term
-term operator operand = do
+term operator between = do
   joining ← operator
-  right ← operand
+  right ← between
   pure (joining, right)
 
 -- operand { operator operand }
 abbrev pub chain : Lang (ℕ × Operator) → Lang (Expr Name) → Lang (Expr Name)
-chain operator operand = do
-  first ← operand
-  terms ← many (term operator operand)
+chain operator between = do
+  first ← between
+  terms ← many (term operator between)
   pure (chained first terms)
 
 -- prod = unary { ( "*" | "/" | "%" ) unary }
 abbrev pub product : Lang (Expr Name) → Lang (Expr Name)
-product inside = chain (operator level.Product) (unary inside)
+product inside = chain (operator grouping.Product) (factor inside)
 
 -- sum = prod { ( "+" | "-" ) prod }
 abbrev pub sum : Lang (Expr Name) → Lang (Expr Name)
-sum inside = chain (operator level.Sum) (product inside)
+sum inside = chain (operator grouping.Sum) (product inside)
 
 -- cmp = sum [ ( "==" | "!=" | "<" | "<=" | ">" | ">=" ) sum ]
 abbrev pub comparison : Lang (Expr Name) → Lang (Expr Name)
@@ -202,41 +202,41 @@ comparison inside = do
   pure (compared left right)
 
 -- and = cmp { "&&" cmp }
-abbrev pub conjunction : Lang (Expr Name) → Lang (Expr Name)
-conjunction inside = chain (operator level.And) (comparison inside)
+abbrev pub both : Lang (Expr Name) → Lang (Expr Name)
+both inside = chain (operator grouping.Both) (comparison inside)
 
 -- or = and { "||" and }
-abbrev pub disjunction : Lang (Expr Name) → Lang (Expr Name)
-disjunction inside = chain (operator level.Or) (conjunction inside)
+abbrev pub either : Lang (Expr Name) → Lang (Expr Name)
+either inside = chain (operator grouping.Either) (both inside)
 
 abbrev pub branches : Lang (Expr Name) → Lang Branches
 branches inside = do
-  place ← language.mark (terminal.Punct mark.Question)
-  first ← disjunction inside
+  place ← language.counted_token (terminal.Punct mark.Question)
+  first ← either inside
   punct mark.Colon
-  second ← disjunction inside
+  second ← either inside
   pure (place, first, second)
 
 -- expr = or [ "?" or ":" or ]
-abbrev pub expr : Lang (Expr Name) → Lang (Expr Name)
-expr inside = do
-  test ← disjunction inside
+abbrev pub expression : Lang (Expr Name) → Lang (Expr Name)
+expression inside = do
+  test ← either inside
   choice ← optional (branches inside)
   pure (chosen test choice)
 
 abbrev pub inside : ℕ → Lang (Expr Name)
 inside zero = nothing
-inside (suc room) = in_round (λ left. expr (inside room)) (suc room)
+inside (suc room) = in_round (λ left. expression (inside room)) (suc room)
 
 -- an outermost expression, and the place of its first token
 abbrev pub outermost : ℕ → Lang (ExprAt Name)
 outermost room = do
-  found ← language.outer (language.placed (expr (inside room)))
+  found ← language.outer (language.placed (expression (inside room)))
   pure (expr_at found)
 
 -- "(" expr ")"
-abbrev pub tested : ℕ → Lang (ExprAt Name)
-tested room = in_round outermost room
+abbrev pub test : ℕ → Lang (ExprAt Name)
+test room = in_round outermost room
 
 -- [ expr { "," expr } ]
 abbrev pub arguments : ℕ → Lang (List (ExprAt Name))

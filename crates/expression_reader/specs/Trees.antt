@@ -18,19 +18,19 @@ Name = List ℕ
 abbrev pub TextAt : Type 0
 TextAt = ℕ × List ℕ
 
-abbrev pub at : ℕ → Pos
-at n = record { 0 = n }
+abbrev pub pos_at : ℕ → Pos
+pos_at n = record { 0 = n }
 
 abbrev pub name_at : TextAt → NameAt Name
-name_at n = record { pos = at n.0; name = n.1 }
+name_at n = record { pos = pos_at n.0; name = n.1 }
 
 -- ---- expressions
 
 abbrev pub node : ℕ → ExprNode Name → Expr Name
-node n e = roll-Expr Name (record { pos = at n; node = e })
+node n e = roll-Expr Name (record { pos = pos_at n; node = e })
 
 abbrev pub expr_at : ℕ × Expr Name → ExprAt Name
-expr_at e = record { pos = at e.0; expr = e.1 }
+expr_at e = record { pos = pos_at e.0; expr = e.1 }
 
 -- what of a signal is read, or the parameter of a name
 abbrev pub accessed : Access → Name → ExprNode Name
@@ -50,16 +50,16 @@ binary_node o.Or a b = x.Or a b
 abbrev pub Term : Type 0
 Term = (ℕ × Operator) × Expr Name
 
-abbrev pub joined : Expr Name → Term → Expr Name
-joined a b = node b.0.0 (binary_node b.0.1 a b.1)
+abbrev pub applied : Expr Name → Term → Expr Name
+applied a b = node b.0.0 (binary_node b.0.1 a b.1)
 
 -- operators of one level group to the left
 abbrev pub chained : Expr Name → List Term → Expr Name
-chained a bs = fold joined a bs
+chained a bs = fold applied a bs
 
 abbrev pub compared : Expr Name → Option Term → Expr Name
 compared a None = a
-compared a (Some b) = joined a b
+compared a (Some b) = applied a b
 
 -- the place of `?`, and what stands behind it and behind `:`
 abbrev pub Branches : Type 0

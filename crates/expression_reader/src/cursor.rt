@@ -6,13 +6,13 @@ ghost use Rattle.grammar.specs.Parser.{Reads};
 ghost use Rattle.grammar.specs.Tokens.{is, in_range};
 ghost use Rattle.expression_reader.specs.Cursor.{IsReadable, toks};
 ghost use Rattle.expression_reader.specs.Reference as rule;
-ghost use Rattle.expression_reader.specs.Refusals.{seen};
+ghost use Rattle.expression_reader.specs.Refusals.{as_refusal};
 ghost use Rattle.expression_reader.specs.Rules.{is_number, is_quoted, largest};
 ghost use Rattle.expression_reader.specs.Terminals.{symbols, is_name, is_keyword, is_punct, is_in_round, is_in_curly};
 
-use crate::fault::Refused;
+use crate::fault::StepError;
 use crate::terminal::Terminal;
-use crate::words::Words;
+use crate::tokens_left::TokensLeft;
 use grammar::cursor::Cursor;
 use hh_base::name::Name;
 use hh_base::text::Text;
@@ -35,14 +35,14 @@ const MOST_TIMES: u64 = 64;
 #[derive(Drop)]
 pub struct Reader<'a> {
     pub(crate) alloc: Global,
-    cursor: Cursor<Words<'a>>,
+    cursor: Cursor<TokensLeft<'a>>,
 }
 
 impl<'a> Model for Reader<'a> {
-    ghost use Rattle.grammar.specs.Parser.{Input};
+    ghost use Rattle.grammar.specs.Parser.{Unread};
     ghost use Rattle.expression_reader.specs.declared.terminal.Terminal.{Terminal as ATerminal};
 
-    ghost Value = { Input ATerminal };
+    ghost Value = { Unread ATerminal };
 
     ghost view = { λ r. r.cursor };
 }
@@ -55,7 +55,7 @@ impl<'a> Reader<'a> {
     {
         Reader {
             alloc,
-            cursor: Cursor::new(Words::new(text, tokens), size),
+            cursor: Cursor::new(TokensLeft::new(text, tokens), size),
         }
     }
 
@@ -69,10 +69,10 @@ impl<'a> Reader<'a> {
     }
 
     /// Its place, that of the end where there is none.
-    pub(crate) fn here(&self) -> u32
-        ensures { result ≡ parser.here self.now }
+    pub(crate) fn place(&self) -> u32
+        ensures { result ≡ parser.place self.now }
     {
-        self.cursor.here()
+        self.cursor.place()
     }
 
     /// Whether the next token is this one.
@@ -121,38 +121,38 @@ impl<'a> Reader<'a> {
     // ---- refusals
 
     /// The refusal of the next token, or of the end.
-    pub(crate) fn refuse(&self) -> Refused
-        ensures { seen result ≡ Some (parser.refusal self.now) }
+    pub(crate) fn refuse(&self) -> StepError
+        ensures { as_refusal result ≡ Some (parser.refusal self.now) }
     {
-        Refused::from(self.cursor.refusal())
+        StepError::from(self.cursor.refusal())
     }
 
     /// Why this bracket cannot be opened where no bracket can.
-    pub fn too_deep(&self, bracket: Punct) -> Refused
-        ensures { seen result ≡ Some (parser.too_deep symbols (Terminal.Punct bracket) self.now) }
+    pub fn too_deep(&self, bracket: Punct) -> StepError
+        ensures { as_refusal result ≡ Some (parser.too_deep symbols (Terminal.Punct bracket) self.now) }
     {
-        Refused::from(self.cursor.too_deep(Terminal::Punct(bracket)))
+        StepError::from(self.cursor.too_deep(Terminal::Punct(bracket)))
     }
 
     // ---- one token
 
     /// Takes this token, and gives its place.
-    pub fn take(&mut self, terminal: Terminal) -> Result<u32, Refused>
-        ensures { Reads seen (parser.take symbols terminal self.old) result self.new }
+    pub fn take(&mut self, terminal: Terminal) -> Result<u32, StepError>
+        ensures { Reads as_refusal (parser.take symbols terminal self.old) result self.new }
     {
         Ok(self.cursor.take(terminal)?)
     }
 
     /// Takes this keyword, and gives its place.
-    pub fn keyword(&mut self, keyword: Keyword) -> Result<u32, Refused>
-        ensures { Reads seen (rule.keyword keyword self.old) result self.new }
+    pub fn keyword(&mut self, keyword: Keyword) -> Result<u32, StepError>
+        ensures { Reads as_refusal (rule.keyword keyword self.old) result self.new }
     {
         self.take(Terminal::Keyword(keyword))
     }
 
     /// Takes this mark, and gives its place.
-    pub fn punct(&mut self, punct: Punct) -> Result<u32, Refused>
-        ensures { Reads seen (rule.punct punct self.old) result self.new }
+    pub fn punct(&mut self, punct: Punct) -> Result<u32, StepError>
+        ensures { Reads as_refusal (rule.punct punct self.old) result self.new }
     {
         self.take(Terminal::Punct(punct))
     }
@@ -189,34 +189,34 @@ impl<'a> Reader<'a> {
 
     /// A name that is the next token, and its place. It is still to be taken.
     #[tactic(auto, unfolding(grammar::specs::Parser::name, grammar::specs::Parser::sees, grammar::specs::Parser::kind, grammar::specs::Parser::text))]
-    fn next_name(&self) -> Result<(u32, Name), Refused>
-        ensures { Reads seen (rule.name self.now) result (parser.next self.now) }
+    fn next_name(&self) -> Result<(u32, Name), StepError>
+        ensures { Reads as_refusal (rule.name self.now) result (parser.next self.now) }
     {
         if !self.sees_name() {
             return Err(self.refuse());
         }
         let name = self.cursor.tokens().name(self.alloc)?;
-        Ok((self.here(), name))
+        Ok((self.place(), name))
     }
 
     /// A quoted text that is the next token, and its place. It is still to be taken.
     #[tactic(auto, unfolding(grammar::specs::Parser::name, grammar::specs::Parser::sees, grammar::specs::Parser::kind, grammar::specs::Parser::text))]
-    fn next_quoted(&self) -> Result<(u32, Text), Refused>
-        ensures { Reads seen (rule.quoted self.now) result (parser.next self.now) }
+    fn next_quoted(&self) -> Result<(u32, Text), StepError>
+        ensures { Reads as_refusal (rule.quoted self.now) result (parser.next self.now) }
     {
         if !self.sees_quoted() {
             return Err(self.refuse());
         }
         let text = self.cursor.tokens().quoted(self.alloc)?;
-        Ok((self.here(), text))
+        Ok((self.place(), text))
     }
 
     /// A number that is the next token, between these two, and its place. It is still to be taken. Any other number
     /// is refused by `otherwise`, a fault at the next token.
     #[tactic(auto, unfolding(grammar::specs::Parser::ranged, grammar::specs::Parser::fail))]
-    fn next_number(&self, least: u64, most: u64, otherwise: Refused) -> Result<(u32, u64), Refused>
-        ensures reads { (fault : Fault) → seen otherwise ≡ Some (record { place = parser.here self.now; fault = fault })
-            → Reads seen (rule.number least most fault self.now) result (parser.next self.now) }
+    fn next_number(&self, least: u64, most: u64, otherwise: StepError) -> Result<(u32, u64), StepError>
+        ensures reads { (fault : Fault) → as_refusal otherwise ≡ Some (record { place = parser.place self.now; fault = fault })
+            → Reads as_refusal (rule.number least most fault self.now) result (parser.next self.now) }
         ensures within { IfOk result (λ n. in_range least most n.1 ≡ true) }
     {
         if !self.sees_number() {
@@ -226,12 +226,12 @@ impl<'a> Reader<'a> {
         if value < least || value > most {
             return Err(otherwise);
         }
-        Ok((self.here(), value))
+        Ok((self.place(), value))
     }
 
     /// Takes a name, and gives its place too.
-    pub fn name(&mut self) -> Result<(u32, Name), Refused>
-        ensures { Reads seen (rule.name self.old) result self.new }
+    pub fn name(&mut self) -> Result<(u32, Name), StepError>
+        ensures { Reads as_refusal (rule.name self.old) result self.new }
     {
         let name = self.next_name()?;
         self.cursor.skip();
@@ -239,8 +239,8 @@ impl<'a> Reader<'a> {
     }
 
     /// A name, as where it stands.
-    pub fn name_at(&mut self) -> Result<NameAt<Name>, Refused>
-        ensures { Reads seen (rule.named self.old) result self.new }
+    pub fn name_at(&mut self) -> Result<NameAt<Name>, StepError>
+        ensures { Reads as_refusal (rule.named self.old) result self.new }
     {
         let (pos, name) = self.name()?;
         Ok(NameAt {
@@ -250,8 +250,8 @@ impl<'a> Reader<'a> {
     }
 
     /// Takes a quoted text, and gives its place too.
-    pub fn quoted(&mut self) -> Result<(u32, Text), Refused>
-        ensures { Reads seen (rule.quoted self.old) result self.new }
+    pub fn quoted(&mut self) -> Result<(u32, Text), StepError>
+        ensures { Reads as_refusal (rule.quoted self.old) result self.new }
     {
         let text = self.next_quoted()?;
         self.cursor.skip();
@@ -259,21 +259,21 @@ impl<'a> Reader<'a> {
     }
 
     /// Takes a number of at most this value, and gives its place too. Any other may not stand here.
-    pub fn number_up_to(&mut self, most: u64) -> Result<(u32, u64), Refused>
-        ensures reads { Reads seen (rule.number 0 most Unexpected self.old) result self.new }
+    pub fn number_up_to(&mut self, most: u64) -> Result<(u32, u64), StepError>
+        ensures reads { Reads as_refusal (rule.number 0 most Unexpected self.old) result self.new }
         ensures small { IfOk result (λ n. n.1 ≤ most) }
     {
-        let not_here = Refused::Unexpected(self.here());
+        let not_here = StepError::Unexpected(self.place());
         let number = self.next_number(0, most, not_here)?;
         self.cursor.skip();
         Ok(number)
     }
 
     /// Takes how often something is waited for, and gives its place too.
-    pub fn times(&mut self) -> Result<(u32, u8), Refused>
-        ensures { Reads seen (rule.number 1 64 (OutOfRange 1 64) self.old) result self.new }
+    pub fn times(&mut self) -> Result<(u32, u8), StepError>
+        ensures { Reads as_refusal (rule.number 1 64 (OutOfRange 1 64) self.old) result self.new }
     {
-        let out_of_range = Refused::BadCount(self.here());
+        let out_of_range = StepError::BadCount(self.place());
         let (pos, times) = self.next_number(1, MOST_TIMES, out_of_range)?;
         self.cursor.skip();
         Ok((pos, times as u8))
@@ -289,41 +289,41 @@ impl<'a> Reader<'a> {
     }
 
     /// Takes this token, which is a leaf or an operator, and gives its place.
-    pub(crate) fn mark(&mut self, terminal: Terminal) -> Result<u32, Refused>
-        ensures { Reads seen (parser.mark symbols terminal self.old) result self.new }
+    pub(crate) fn counted_token(&mut self, terminal: Terminal) -> Result<u32, StepError>
+        ensures { Reads as_refusal (parser.counted_token symbols terminal self.old) result self.new }
     {
-        Ok(self.cursor.mark(terminal)?)
+        Ok(self.cursor.counted_token(terminal)?)
     }
 
     /// Takes a name that begins a leaf, and gives its place too.
     #[tactic(auto, unfolding(grammar::specs::Parser::counted, grammar::specs::Parser::skipped, grammar::specs::Parser::fail))]
-    pub(crate) fn mark_name(&mut self) -> Result<(u32, Name), Refused>
-        ensures { Reads seen (parser.counted symbols rule.name self.old) result self.new }
+    pub(crate) fn counted_name(&mut self) -> Result<(u32, Name), StepError>
+        ensures { Reads as_refusal (parser.counted symbols rule.name self.old) result self.new }
     {
         let name = self.next_name()?;
-        self.cursor.count()?;
+        self.cursor.skip_counted()?;
         Ok(name)
     }
 
     /// Takes a quoted text that is a leaf, and gives its place too.
     #[tactic(auto, unfolding(grammar::specs::Parser::counted, grammar::specs::Parser::skipped, grammar::specs::Parser::fail))]
-    pub(crate) fn mark_quoted(&mut self) -> Result<(u32, Text), Refused>
-        ensures { Reads seen (parser.counted symbols rule.quoted self.old) result self.new }
+    pub(crate) fn counted_quoted(&mut self) -> Result<(u32, Text), StepError>
+        ensures { Reads as_refusal (parser.counted symbols rule.quoted self.old) result self.new }
     {
         let text = self.next_quoted()?;
-        self.cursor.count()?;
+        self.cursor.skip_counted()?;
         Ok(text)
     }
 
     /// Takes a number that is a leaf, and gives its place too.
     #[tactic(auto, unfolding(grammar::specs::Parser::counted, grammar::specs::Parser::skipped, grammar::specs::Parser::fail))]
-    pub(crate) fn mark_integer(&mut self) -> Result<(u32, u64), Refused>
-        ensures reads { Reads seen (parser.counted symbols (rule.number 0 largest (OutOfRange 0 largest)) self.old) result self.new }
+    pub(crate) fn counted_number(&mut self) -> Result<(u32, u64), StepError>
+        ensures reads { Reads as_refusal (parser.counted symbols (rule.number 0 largest (OutOfRange 0 largest)) self.old) result self.new }
         ensures small { IfOk result (λ n. n.1 ≤ largest) }
     {
-        let too_large = Refused::NumberLarge(self.here());
+        let too_large = StepError::NumberLarge(self.place());
         let number = self.next_number(0, LARGEST, too_large)?;
-        self.cursor.count()?;
+        self.cursor.skip_counted()?;
         Ok(number)
     }
 
@@ -339,8 +339,8 @@ impl<'a> Reader<'a> {
     // ---- the end
 
     /// Whether no token is left: the next one is refused.
-    pub fn finish(&self) -> Result<(), Refused>
-        ensures { Reads seen (parser.finish self.now) result self.now }
+    pub fn finish(&self) -> Result<(), StepError>
+        ensures { Reads as_refusal (parser.finish self.now) result self.now }
     {
         Ok(self.cursor.finish()?)
     }

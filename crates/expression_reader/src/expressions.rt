@@ -2,12 +2,12 @@
 ghost use Rattle.std.specs.Prelude.{◌≡◌};
 ghost use Rattle.grammar.specs.Parser as parser;
 ghost use Rattle.grammar.specs.Parser.{Reads};
-ghost use Rattle.expression_reader.specs.Refusals.{seen};
+ghost use Rattle.expression_reader.specs.Refusals.{as_refusal};
 ghost use Rattle.expression_reader.specs.Reference as rule;
 
 use crate::cursor::Reader;
-use crate::fault::Refused;
-use crate::operator::{Access, Level, Operator, choose, join, node};
+use crate::fault::StepError;
+use crate::operator::{Access, Grouping, Operator, choose, apply, node};
 use crate::terminal::Terminal;
 use hh_base::name::Name;
 use hh_base::value::Pos;
@@ -20,40 +20,40 @@ use sqlite_items::{Boxed, Items};
 impl<'a> Reader<'a> {
     // ---- leaves
 
-    #[tactic(auto, unfolding(crate::specs::Reference::integer))]
-    fn integer_leaf(&mut self) -> Result<Expr<Name>, Refused>
-        ensures { Reads seen (rule.integer self.old) result self.new }
+    #[tactic(auto, unfolding(crate::specs::Reference::number_leaf))]
+    fn number_leaf(&mut self) -> Result<Expr<Name>, StepError>
+        ensures { Reads as_refusal (rule.number_leaf self.old) result self.new }
     {
-        let (pos, value) = self.mark_integer()?;
+        let (pos, value) = self.counted_number()?;
         Ok(node(pos, ExprNode::Int(value as i64)))
     }
 
-    #[tactic(auto, unfolding(crate::specs::Reference::truth))]
-    fn truth(&mut self, word: Keyword, value: bool) -> Result<Expr<Name>, Refused>
-        ensures { Reads seen (rule.truth word value self.old) result self.new }
+    #[tactic(auto, unfolding(crate::specs::Reference::truth_leaf))]
+    fn truth_leaf(&mut self, word: Keyword, value: bool) -> Result<Expr<Name>, StepError>
+        ensures { Reads as_refusal (rule.truth_leaf word value self.old) result self.new }
     {
-        let pos = self.mark(Terminal::Keyword(word))?;
+        let pos = self.counted_token(Terminal::Keyword(word))?;
         Ok(node(pos, ExprNode::Bool(value)))
     }
 
-    #[tactic(auto, unfolding(crate::specs::Reference::text))]
-    fn text_leaf(&mut self) -> Result<Expr<Name>, Refused>
-        ensures { Reads seen (rule.text self.old) result self.new }
+    #[tactic(auto, unfolding(crate::specs::Reference::text_leaf))]
+    fn text_leaf(&mut self) -> Result<Expr<Name>, StepError>
+        ensures { Reads as_refusal (rule.text_leaf self.old) result self.new }
     {
-        let (pos, text) = self.mark_quoted()?;
+        let (pos, text) = self.counted_quoted()?;
         Ok(node(pos, ExprNode::Text(text)))
     }
 
-    fn access_by(&mut self, word: Terminal, access: Access) -> Result<Access, Refused>
-        ensures { Reads seen (rule.access_by word access self.old) result self.new }
+    fn access_by(&mut self, word: Terminal, access: Access) -> Result<Access, StepError>
+        ensures { Reads as_refusal (rule.access_by word access self.old) result self.new }
     {
         self.take(word)?;
         Ok(access)
     }
 
     #[tactic(auto, unfolding(crate::specs::Reference::access))]
-    fn access(&mut self) -> Result<Access, Refused>
-        ensures { Reads seen (rule.access self.old) result self.new }
+    fn access(&mut self) -> Result<Access, StepError>
+        ensures { Reads as_refusal (rule.access self.old) result self.new }
     {
         if self.sees(Terminal::Now) {
             return self.access_by(Terminal::Now, Access::Now);
@@ -69,8 +69,8 @@ impl<'a> Reader<'a> {
 
     /// What is read of a name, by the word behind its dot.
     #[tactic(auto, unfolding(crate::specs::Reference::behind_name))]
-    fn behind_name(&mut self) -> Result<Access, Refused>
-        ensures { Reads seen (rule.behind_name self.old) result self.new }
+    fn behind_name(&mut self) -> Result<Access, StepError>
+        ensures { Reads as_refusal (rule.behind_name self.old) result self.new }
     {
         if !self.sees_punct(Punct::Dot) {
             return Ok(Access::Parameter);
@@ -80,11 +80,11 @@ impl<'a> Reader<'a> {
     }
 
     /// A name with its dot and word is one leaf.
-    #[tactic(auto, unfolding(crate::specs::Reference::signal))]
-    fn signal(&mut self) -> Result<Expr<Name>, Refused>
-        ensures { Reads seen (rule.signal self.old) result self.new }
+    #[tactic(auto, unfolding(crate::specs::Reference::name_leaf))]
+    fn name_leaf(&mut self) -> Result<Expr<Name>, StepError>
+        ensures { Reads as_refusal (rule.name_leaf self.old) result self.new }
     {
-        let (pos, name) = self.mark_name()?;
+        let (pos, name) = self.counted_name()?;
         let access = self.behind_name()?;
         Ok(node(pos, access.of(name)))
     }
@@ -92,28 +92,28 @@ impl<'a> Reader<'a> {
     // ---- operators
 
     #[tactic(auto, unfolding(crate::specs::Reference::binary))]
-    fn binary(&mut self, sign: Punct, operator: Operator) -> Result<(u32, Operator), Refused>
-        ensures { Reads seen (rule.binary sign operator self.old) result self.new }
+    fn binary(&mut self, sign: Punct, operator: Operator) -> Result<(u32, Operator), StepError>
+        ensures { Reads as_refusal (rule.binary sign operator self.old) result self.new }
     {
-        let pos = self.mark(Terminal::Punct(sign))?;
+        let pos = self.counted_token(Terminal::Punct(sign))?;
         Ok((pos, operator))
     }
 
     #[tactic(auto, unfolding(crate::specs::Reference::operator))]
-    fn operator(&mut self, level: Level) -> Result<(u32, Operator), Refused>
-        ensures { Reads seen (rule.operator level self.old) result self.new }
+    fn operator(&mut self, grouping: Grouping) -> Result<(u32, Operator), StepError>
+        ensures { Reads as_refusal (rule.operator grouping self.old) result self.new }
     {
-        match level {
-            Level::Or => self.binary(Punct::Or, Operator::Or),
-            Level::And => self.binary(Punct::And, Operator::And),
-            Level::Sum => self.sum_operator(),
-            Level::Product => self.product_operator(),
+        match grouping {
+            Grouping::Either => self.binary(Punct::Or, Operator::Or),
+            Grouping::Both => self.binary(Punct::And, Operator::And),
+            Grouping::Sum => self.sum_operator(),
+            Grouping::Product => self.product_operator(),
         }
     }
 
     #[tactic(auto, unfolding(crate::specs::Reference::operator))]
-    fn sum_operator(&mut self) -> Result<(u32, Operator), Refused>
-        ensures { Reads seen (rule.operator Level.Sum self.old) result self.new }
+    fn sum_operator(&mut self) -> Result<(u32, Operator), StepError>
+        ensures { Reads as_refusal (rule.operator Grouping.Sum self.old) result self.new }
     {
         if self.sees_punct(Punct::Plus) {
             return self.binary(Punct::Plus, Operator::Arith(Op::Add));
@@ -122,8 +122,8 @@ impl<'a> Reader<'a> {
     }
 
     #[tactic(auto, unfolding(crate::specs::Reference::operator))]
-    fn product_operator(&mut self) -> Result<(u32, Operator), Refused>
-        ensures { Reads seen (rule.operator Level.Product self.old) result self.new }
+    fn product_operator(&mut self) -> Result<(u32, Operator), StepError>
+        ensures { Reads as_refusal (rule.operator Grouping.Product self.old) result self.new }
     {
         if self.sees_punct(Punct::Star) {
             return self.binary(Punct::Star, Operator::Arith(Op::Mul));
@@ -135,8 +135,8 @@ impl<'a> Reader<'a> {
     }
 
     #[tactic(auto, unfolding(crate::specs::Reference::relation))]
-    fn relation(&mut self) -> Result<(u32, Operator), Refused>
-        ensures { Reads seen (rule.relation self.old) result self.new }
+    fn relation(&mut self) -> Result<(u32, Operator), StepError>
+        ensures { Reads as_refusal (rule.relation self.old) result self.new }
     {
         if self.sees_punct(Punct::EqualEqual) {
             return self.binary(Punct::EqualEqual, Operator::Compare(Rel::Eq));
@@ -157,12 +157,12 @@ impl<'a> Reader<'a> {
     }
 
     #[tactic(auto, unfolding(grammar::specs::Parser::sees))]
-    fn sees_operator(&self, level: Level) -> bool
-        ensures { result ≡ parser.sees (rule.operates level) self.now }
+    fn sees_operator(&self, grouping: Grouping) -> bool
+        ensures { result ≡ parser.sees (rule.operates grouping) self.now }
     {
         match self.kind() {
             None => false,
-            Some(next) => operates(level, next),
+            Some(next) => operates(grouping, next),
         }
     }
 
@@ -178,47 +178,47 @@ impl<'a> Reader<'a> {
 
     // ---- expressions, where so many brackets may still be opened
 
-    #[cycle(expr)]
-    #[tactic(auto, unfolding(crate::specs::Reference::atom))]
-    fn atom(&mut self, room: u8) -> Result<Expr<Name>, Refused>
-        ensures { Reads seen (rule.atom (rule.inside room) self.old) result self.new }
+    #[cycle(expression)]
+    #[tactic(auto, unfolding(crate::specs::Reference::operand))]
+    fn operand(&mut self, room: u8) -> Result<Expr<Name>, StepError>
+        ensures { Reads as_refusal (rule.operand (rule.inside room) self.old) result self.new }
     {
         match self.kind() {
-            Some(Terminal::Number) => self.integer_leaf(),
-            Some(Terminal::Keyword(Keyword::True)) => self.truth(Keyword::True, true),
-            Some(Terminal::Keyword(Keyword::False)) => self.truth(Keyword::False, false),
+            Some(Terminal::Number) => self.number_leaf(),
+            Some(Terminal::Keyword(Keyword::True)) => self.truth_leaf(Keyword::True, true),
+            Some(Terminal::Keyword(Keyword::False)) => self.truth_leaf(Keyword::False, false),
             Some(Terminal::Quoted) => self.text_leaf(),
             None | Some(Terminal::Keyword(_)) | Some(Terminal::Punct(_)) => self.inside(room),
-            Some(_) => self.signal(),
+            Some(_) => self.name_leaf(),
         }
     }
 
-    #[cycle(expr)]
+    #[cycle(expression)]
     #[tactic(auto, unfolding(crate::specs::Reference::negated))]
-    fn negated(&mut self, room: u8) -> Result<Expr<Name>, Refused>
-        ensures { Reads seen (rule.negated (rule.inside room) self.old) result self.new }
+    fn negated(&mut self, room: u8) -> Result<Expr<Name>, StepError>
+        ensures { Reads as_refusal (rule.negated (rule.inside room) self.old) result self.new }
     {
-        let pos = self.mark(Terminal::Punct(Punct::Not))?;
-        let operand = self.atom(room)?;
+        let pos = self.counted_token(Terminal::Punct(Punct::Not))?;
+        let operand = self.operand(room)?;
         let operand = Boxed::new(self.alloc, operand)?;
         Ok(node(pos, ExprNode::Not(operand)))
     }
 
-    #[cycle(expr)]
+    #[cycle(expression)]
     #[tactic(auto, unfolding(crate::specs::Reference::negative))]
-    fn negative(&mut self, room: u8) -> Result<Expr<Name>, Refused>
-        ensures { Reads seen (rule.negative (rule.inside room) self.old) result self.new }
+    fn negative(&mut self, room: u8) -> Result<Expr<Name>, StepError>
+        ensures { Reads as_refusal (rule.negative (rule.inside room) self.old) result self.new }
     {
-        let pos = self.mark(Terminal::Punct(Punct::Minus))?;
-        let operand = self.atom(room)?;
+        let pos = self.counted_token(Terminal::Punct(Punct::Minus))?;
+        let operand = self.operand(room)?;
         let operand = Boxed::new(self.alloc, operand)?;
         Ok(node(pos, ExprNode::Neg(operand)))
     }
 
-    #[cycle(expr)]
-    #[tactic(auto, unfolding(crate::specs::Reference::unary))]
-    fn unary(&mut self, room: u8) -> Result<Expr<Name>, Refused>
-        ensures { Reads seen (rule.unary (rule.inside room) self.old) result self.new }
+    #[cycle(expression)]
+    #[tactic(auto, unfolding(crate::specs::Reference::factor))]
+    fn factor(&mut self, room: u8) -> Result<Expr<Name>, StepError>
+        ensures { Reads as_refusal (rule.factor (rule.inside room) self.old) result self.new }
     {
         if self.sees_punct(Punct::Not) {
             return self.negated(room);
@@ -226,91 +226,91 @@ impl<'a> Reader<'a> {
         if self.sees_punct(Punct::Minus) {
             return self.negative(room);
         }
-        self.atom(room)
+        self.operand(room)
     }
 
     /// What stands between the operators of a level.
-    #[cycle(expr)]
-    fn operand(&mut self, level: Level, room: u8) -> Result<Expr<Name>, Refused>
-        ensures { Reads seen (rule.operand level (rule.inside room) self.old) result self.new }
+    #[cycle(expression)]
+    fn between(&mut self, grouping: Grouping, room: u8) -> Result<Expr<Name>, StepError>
+        ensures { Reads as_refusal (rule.between grouping (rule.inside room) self.old) result self.new }
     {
-        match level {
-            Level::Or => self.chain(Level::And, room),
-            Level::And => self.comparison(room),
-            Level::Sum => self.chain(Level::Product, room),
-            Level::Product => self.unary(room),
+        match grouping {
+            Grouping::Either => self.chain(Grouping::Both, room),
+            Grouping::Both => self.comparison(room),
+            Grouping::Sum => self.chain(Grouping::Product, room),
+            Grouping::Product => self.factor(room),
         }
     }
 
     /// An operator of a level, and the operand behind it.
-    #[cycle(expr)]
+    #[cycle(expression)]
     #[tactic(auto, unfolding(crate::specs::Reference::term))]
-    fn term(&mut self, level: Level, room: u8) -> Result<((u32, Operator), Expr<Name>), Refused>
-        ensures { Reads seen (rule.term (rule.operator level) (rule.operand level (rule.inside room)) self.old) result self.new }
+    fn term(&mut self, grouping: Grouping, room: u8) -> Result<((u32, Operator), Expr<Name>), StepError>
+        ensures { Reads as_refusal (rule.term (rule.operator grouping) (rule.between grouping (rule.inside room)) self.old) result self.new }
     {
-        let operator = self.operator(level)?;
-        let operand = self.operand(level, room)?;
+        let operator = self.operator(grouping)?;
+        let operand = self.between(grouping, room)?;
         Ok((operator, operand))
     }
 
     /// Operands with operators of a level between them, which group to the left.
-    #[cycle(expr)]
+    #[cycle(expression)]
     #[tactic(auto, unfolding(crate::specs::Reference::chain))]
-    fn chain(&mut self, level: Level, room: u8) -> Result<Expr<Name>, Refused>
-        ensures { Reads seen (rule.chain level (rule.operand level (rule.inside room)) self.old) result self.new }
+    fn chain(&mut self, grouping: Grouping, room: u8) -> Result<Expr<Name>, StepError>
+        ensures { Reads as_refusal (rule.chain grouping (rule.between grouping (rule.inside room)) self.old) result self.new }
     {
-        let mut left = self.operand(level, room)?;
-        'terms: while self.sees_operator(level) {
-            let (operator, right) = self.term(level, room)?;
-            left = join(self.alloc, left, operator, right)?;
+        let mut left = self.between(grouping, room)?;
+        'terms: while self.sees_operator(grouping) {
+            let (operator, right) = self.term(grouping, room)?;
+            left = apply(self.alloc, left, operator, right)?;
         }
         Ok(left)
     }
 
     /// A relation, and the sum behind it.
-    #[cycle(expr)]
+    #[cycle(expression)]
     #[tactic(auto, unfolding(crate::specs::Reference::term))]
-    fn related(&mut self, room: u8) -> Result<((u32, Operator), Expr<Name>), Refused>
-        ensures { Reads seen (rule.term rule.relation (rule.sum (rule.inside room)) self.old) result self.new }
+    fn related(&mut self, room: u8) -> Result<((u32, Operator), Expr<Name>), StepError>
+        ensures { Reads as_refusal (rule.term rule.relation (rule.sum (rule.inside room)) self.old) result self.new }
     {
         let operator = self.relation()?;
-        let operand = self.chain(Level::Sum, room)?;
+        let operand = self.chain(Grouping::Sum, room)?;
         Ok((operator, operand))
     }
 
-    #[cycle(expr)]
+    #[cycle(expression)]
     #[tactic(auto, unfolding(crate::specs::Reference::comparison))]
-    fn comparison(&mut self, room: u8) -> Result<Expr<Name>, Refused>
-        ensures { Reads seen (rule.comparison (rule.inside room) self.old) result self.new }
+    fn comparison(&mut self, room: u8) -> Result<Expr<Name>, StepError>
+        ensures { Reads as_refusal (rule.comparison (rule.inside room) self.old) result self.new }
     {
-        let left = self.chain(Level::Sum, room)?;
+        let left = self.chain(Grouping::Sum, room)?;
         if !self.sees_relation() {
             return Ok(left);
         }
         let (operator, right) = self.related(room)?;
-        let joined = join(self.alloc, left, operator, right)?;
-        Ok(joined)
+        let applied = apply(self.alloc, left, operator, right)?;
+        Ok(applied)
     }
 
     /// `?` with its place, and the two expressions behind it.
-    #[cycle(expr)]
+    #[cycle(expression)]
     #[tactic(auto, unfolding(crate::specs::Reference::branches))]
-    fn branches(&mut self, room: u8) -> Result<(u32, Expr<Name>, Expr<Name>), Refused>
-        ensures { Reads seen (rule.branches (rule.inside room) self.old) result self.new }
+    fn branches(&mut self, room: u8) -> Result<(u32, Expr<Name>, Expr<Name>), StepError>
+        ensures { Reads as_refusal (rule.branches (rule.inside room) self.old) result self.new }
     {
-        let pos = self.mark(Terminal::Punct(Punct::Question))?;
-        let then = self.chain(Level::Or, room)?;
+        let pos = self.counted_token(Terminal::Punct(Punct::Question))?;
+        let then = self.chain(Grouping::Either, room)?;
         self.punct(Punct::Colon)?;
-        let other = self.chain(Level::Or, room)?;
+        let other = self.chain(Grouping::Either, room)?;
         Ok((pos, then, other))
     }
 
-    #[cycle(expr)]
-    #[tactic(auto, unfolding(crate::specs::Reference::expr))]
-    fn expr(&mut self, room: u8) -> Result<Expr<Name>, Refused>
-        ensures { Reads seen (rule.expr (rule.inside room) self.old) result self.new }
+    #[cycle(expression)]
+    #[tactic(auto, unfolding(crate::specs::Reference::expression))]
+    fn expression(&mut self, room: u8) -> Result<Expr<Name>, StepError>
+        ensures { Reads as_refusal (rule.expression (rule.inside room) self.old) result self.new }
     {
-        let test = self.chain(Level::Or, room)?;
+        let test = self.chain(Grouping::Either, room)?;
         if !self.sees_punct(Punct::Question) {
             return Ok(test);
         }
@@ -320,35 +320,35 @@ impl<'a> Reader<'a> {
     }
 
     /// An expression in round brackets.
-    #[cycle(expr)]
+    #[cycle(expression)]
     #[tactic(auto, unfolding(crate::specs::Reference::inside, crate::specs::Reference::in_round, grammar::specs::Parser::opened))]
-    fn inside(&mut self, room: u8) -> Result<Expr<Name>, Refused>
-        ensures { Reads seen (rule.inside room self.old) result self.new }
+    fn inside(&mut self, room: u8) -> Result<Expr<Name>, StepError>
+        ensures { Reads as_refusal (rule.inside room self.old) result self.new }
     {
         if room == 0 {
             return Err(self.too_deep(Punct::LeftParen));
         }
         self.punct(Punct::LeftParen)?;
-        let expr = self.expr(room - 1)?;
+        let expr = self.expression(room - 1)?;
         self.punct(Punct::RightParen)?;
         Ok(expr)
     }
 
     /// An outermost expression, and the place of its first token.
     #[tactic(auto, unfolding(crate::specs::Reference::outermost, grammar::specs::Parser::placed))]
-    pub fn outermost(&mut self, room: u8) -> Result<ExprAt<Name>, Refused>
-        ensures { Reads seen (rule.outermost room self.old) result self.new }
+    pub fn outermost(&mut self, room: u8) -> Result<ExprAt<Name>, StepError>
+        ensures { Reads as_refusal (rule.outermost room self.old) result self.new }
     {
         self.begin_outermost();
-        let pos = Pos(self.here());
-        let expr = self.expr(room)?;
+        let pos = Pos(self.place());
+        let expr = self.expression(room)?;
         Ok(ExprAt { pos, expr })
     }
 
     /// An outermost expression in round brackets.
-    #[tactic(auto, unfolding(crate::specs::Reference::tested, crate::specs::Reference::in_round, grammar::specs::Parser::opened))]
-    pub fn tested(&mut self, room: u8) -> Result<ExprAt<Name>, Refused>
-        ensures { Reads seen (rule.tested room self.old) result self.new }
+    #[tactic(auto, unfolding(crate::specs::Reference::test, crate::specs::Reference::in_round, grammar::specs::Parser::opened))]
+    pub fn test(&mut self, room: u8) -> Result<ExprAt<Name>, StepError>
+        ensures { Reads as_refusal (rule.test room self.old) result self.new }
     {
         if room == 0 {
             return Err(self.too_deep(Punct::LeftParen));
@@ -359,8 +359,8 @@ impl<'a> Reader<'a> {
         Ok(expr)
     }
 
-    fn next_outermost(&mut self, room: u8) -> Result<ExprAt<Name>, Refused>
-        ensures { Reads seen (rule.behind_comma (rule.outermost room) self.old) result self.new }
+    fn next_outermost(&mut self, room: u8) -> Result<ExprAt<Name>, StepError>
+        ensures { Reads as_refusal (rule.behind_comma (rule.outermost room) self.old) result self.new }
     {
         self.punct(Punct::Comma)?;
         self.outermost(room)
@@ -368,8 +368,8 @@ impl<'a> Reader<'a> {
 
     /// One or more.
     #[tactic(auto, unfolding(crate::specs::Reference::listed))]
-    fn exprs(&mut self, room: u8) -> Result<Items<ExprAt<Name>>, Refused>
-        ensures { Reads seen (rule.listed (rule.outermost room) self.old) result self.new }
+    fn exprs(&mut self, room: u8) -> Result<Items<ExprAt<Name>>, StepError>
+        ensures { Reads as_refusal (rule.listed (rule.outermost room) self.old) result self.new }
     {
         let first = self.outermost(room)?;
         let mut list = self.empty_list();
@@ -383,8 +383,8 @@ impl<'a> Reader<'a> {
 
     /// The same, or none.
     #[tactic(auto, unfolding(crate::specs::Reference::listed_or_none))]
-    fn exprs_or_none(&mut self, room: u8) -> Result<Items<ExprAt<Name>>, Refused>
-        ensures { Reads seen (rule.listed_or_none (rule.outermost room) self.old) result self.new }
+    fn exprs_or_none(&mut self, room: u8) -> Result<Items<ExprAt<Name>>, StepError>
+        ensures { Reads as_refusal (rule.listed_or_none (rule.outermost room) self.old) result self.new }
     {
         if self.sees_in_round() {
             self.exprs(room)
@@ -395,8 +395,8 @@ impl<'a> Reader<'a> {
 
     /// The arguments of a call, in round brackets.
     #[tactic(auto, unfolding(crate::specs::Reference::in_round, grammar::specs::Parser::opened))]
-    pub fn arguments(&mut self, room: u8) -> Result<Items<ExprAt<Name>>, Refused>
-        ensures { Reads seen (rule.in_round rule.arguments room self.old) result self.new }
+    pub fn arguments(&mut self, room: u8) -> Result<Items<ExprAt<Name>>, StepError>
+        ensures { Reads as_refusal (rule.in_round rule.arguments room self.old) result self.new }
     {
         if room == 0 {
             return Err(self.too_deep(Punct::LeftParen));
@@ -408,14 +408,14 @@ impl<'a> Reader<'a> {
     }
 }
 
-fn operates(level: Level, terminal: Terminal) -> bool
-    ensures { result ≡ rule.operates level terminal }
+fn operates(grouping: Grouping, terminal: Terminal) -> bool
+    ensures { result ≡ rule.operates grouping terminal }
 {
-    match (level, terminal) {
-        (Level::Or, Terminal::Punct(Punct::Or)) => true,
-        (Level::And, Terminal::Punct(Punct::And)) => true,
-        (Level::Sum, Terminal::Punct(Punct::Plus | Punct::Minus)) => true,
-        (Level::Product, Terminal::Punct(Punct::Star | Punct::Slash | Punct::Percent)) => true,
+    match (grouping, terminal) {
+        (Grouping::Either, Terminal::Punct(Punct::Or)) => true,
+        (Grouping::Both, Terminal::Punct(Punct::And)) => true,
+        (Grouping::Sum, Terminal::Punct(Punct::Plus | Punct::Minus)) => true,
+        (Grouping::Product, Terminal::Punct(Punct::Star | Punct::Slash | Punct::Percent)) => true,
         _ => false,
     }
 }

@@ -1,13 +1,13 @@
 //! Why the tokens of a text are not read.
 ghost use Rattle.std.specs.Prelude.{◌≡◌};
 
-use grammar::fault::{Fault, Refused as AtToken};
+use grammar::fault::{Fault, Refusal};
 use hh_base::memory::NoMemory;
 use std::alloc::{AllocError, AllocFailed};
 
 /// What the grammar refuses in the tokens of a text, each at a place but want of memory.
 #[derive(Clone, Copy, PartialEq, Eq, Debug)]
-pub enum Refused {
+pub enum StepError {
     Unexpected(u32),
     EndOfText(u32),
     DeepNesting(u32),
@@ -17,52 +17,52 @@ pub enum Refused {
     NoMemory,
 }
 
-impl From<AllocError> for Refused {
+impl From<AllocError> for StepError {
     ghost use Rattle.std.specs.Prelude.{◌≡◌};
-    ghost use Rattle.expression_reader.specs.declared.fault.Refused.TheVariants.{NoMemory as OutOfMemory};
+    ghost use Rattle.expression_reader.specs.declared.fault.StepError.TheVariants.{NoMemory as OutOfMemory};
 
     ghost from_gives = { λ _ e. e ≡ OutOfMemory };
 
-    fn from(_: AllocError) -> Refused {
-        Refused::NoMemory
+    fn from(_: AllocError) -> StepError {
+        StepError::NoMemory
     }
 }
 
-impl<T: Drop> From<AllocFailed<T>> for Refused {
+impl<T: Drop> From<AllocFailed<T>> for StepError {
     ghost use Rattle.std.specs.Prelude.{◌≡◌};
-    ghost use Rattle.expression_reader.specs.declared.fault.Refused.TheVariants.{NoMemory as OutOfMemory};
+    ghost use Rattle.expression_reader.specs.declared.fault.StepError.TheVariants.{NoMemory as OutOfMemory};
 
     ghost from_gives = { λ _ e. e ≡ OutOfMemory };
 
-    fn from(_: AllocFailed<T>) -> Refused {
-        Refused::NoMemory
+    fn from(_: AllocFailed<T>) -> StepError {
+        StepError::NoMemory
     }
 }
 
-impl From<NoMemory> for Refused {
+impl From<NoMemory> for StepError {
     ghost use Rattle.std.specs.Prelude.{◌≡◌};
-    ghost use Rattle.expression_reader.specs.declared.fault.Refused.TheVariants.{NoMemory as OutOfMemory};
+    ghost use Rattle.expression_reader.specs.declared.fault.StepError.TheVariants.{NoMemory as OutOfMemory};
 
     ghost from_gives = { λ _ e. e ≡ OutOfMemory };
 
-    fn from(_: NoMemory) -> Refused {
-        Refused::NoMemory
+    fn from(_: NoMemory) -> StepError {
+        StepError::NoMemory
     }
 }
 
-impl From<AtToken> for Refused {
+impl From<Refusal> for StepError {
     ghost use Rattle.std.specs.Prelude.{◌≡◌, Some};
     ghost use Rattle.grammar.specs.Refusals.{refusal_of};
-    ghost use Rattle.expression_reader.specs.Refusals.{seen};
+    ghost use Rattle.expression_reader.specs.Refusals.{as_refusal};
 
-    ghost from_gives = { λ refused e. seen e ≡ Some (refusal_of refused) };
+    ghost from_gives = { λ refused e. as_refusal e ≡ Some (refusal_of refused) };
 
-    fn from(refused: AtToken) -> Refused {
+    fn from(refused: Refusal) -> StepError {
         match refused.fault {
-            Fault::Unexpected => Refused::Unexpected(refused.place),
-            Fault::EndOfText => Refused::EndOfText(refused.place),
-            Fault::Deep => Refused::DeepNesting(refused.place),
-            Fault::Large => Refused::ExprLarge(refused.place),
+            Fault::Unexpected => StepError::Unexpected(refused.place),
+            Fault::EndOfText => StepError::EndOfText(refused.place),
+            Fault::Deep => StepError::DeepNesting(refused.place),
+            Fault::Large => StepError::ExprLarge(refused.place),
         }
     }
 }

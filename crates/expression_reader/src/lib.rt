@@ -8,4 +8,4 @@ mod operator;
 pub mod terminal;
 #[cfg(test)]
 mod tests;
-mod words;
+mod tokens_left;

@@ -10,9 +10,9 @@ use std::alloc::{AllocError, Global};
 
 /// The levels at which operators of two operands group to the left, from the loosest.
 #[derive(Clone, Copy, PartialEq, Eq, Debug)]
-pub enum Level {
-    Or,
-    And,
+pub enum Grouping {
+    Either,
+    Both,
     Sum,
     Product,
 }
@@ -62,24 +62,24 @@ pub fn node(pos: u32, node: ExprNode<Name>) -> Expr<Name>
 }
 
 /// The operator at its place, between its operands.
-pub fn join(
+pub fn apply(
     alloc: Global,
     left: Expr<Name>,
     operator: (u32, Operator),
     right: Expr<Name>,
 ) -> Result<Expr<Name>, AllocError>
-    ensures { IfOk result (λ e. e ≡ tree.joined left (operator, right)) }
+    ensures { IfOk result (λ e. e ≡ tree.applied left (operator, right)) }
 {
     let left = Boxed::new(alloc, left)?;
     let right = Boxed::new(alloc, right)?;
     let (pos, operator) = operator;
-    let joined = match operator {
+    let applied = match operator {
         Operator::Arith(op) => ExprNode::Arith(op, left, right),
         Operator::Compare(rel) => ExprNode::Compare(rel, left, right),
         Operator::And => ExprNode::And(left, right),
         Operator::Or => ExprNode::Or(left, right),
     };
-    Ok(node(pos, joined))
+    Ok(node(pos, applied))
 }
 
 /// The choice whose `?` stands at this place.

@@ -1,7 +1,7 @@
 //! Parts that are read, and parts that are refused.
 
 use crate::cursor::Reader;
-use crate::fault::Refused;
+use crate::fault::StepError;
 use crate::terminal::Terminal;
 use hh_base::value::Pos;
 use host_expr::expr::{ExprNode, Op};
@@ -39,12 +39,12 @@ fn sees_bracket(reader: &Reader<'_>) -> bool {
         && !reader.sees_keyword(Keyword::Emit)
         && reader.sees_in_round()
         && reader.sees_in_curly()
-        && reader.too_deep(Punct::LeftParen) == Refused::DeepNesting(0)
+        && reader.too_deep(Punct::LeftParen) == StepError::DeepNesting(0)
         && list.is_empty()
 }
 
 /// The tree of a difference: it groups to the left, and its parts stand where they are read.
-fn is_difference(reader: &mut Reader<'_>) -> Result<bool, Refused> {
+fn is_difference(reader: &mut Reader<'_>) -> Result<bool, StepError> {
     reader.punct(Punct::LeftParen)?;
     let read = reader.outermost(0)?;
     Ok(match &read.expr.node {
@@ -55,7 +55,7 @@ fn is_difference(reader: &mut Reader<'_>) -> Result<bool, Refused> {
     })
 }
 
-fn read_part(reader: &mut Reader<'_>, part: Part) -> Result<u32, Refused> {
+fn read_part(reader: &mut Reader<'_>, part: Part) -> Result<u32, StepError> {
     match part {
         Part::Emit => reader.keyword(Keyword::Emit),
         Part::Plus => reader.take(Terminal::Plus),
@@ -65,7 +65,7 @@ fn read_part(reader: &mut Reader<'_>, part: Part) -> Result<u32, Refused> {
         Part::Number => Ok(reader.number_up_to(9)?.0),
         Part::Times => Ok(u32::from(reader.times()?.1)),
         Part::Outermost => Ok(reader.outermost(2)?.pos.0),
-        Part::Tested => Ok(reader.tested(2)?.pos.0),
+        Part::Tested => Ok(reader.test(2)?.pos.0),
         Part::Arguments => Ok(u32::from(reader.arguments(2)?.len() == 3)),
         Part::Difference => Ok(u32::from(is_difference(reader)?)),
         Part::Bracket => Ok(u32::from(sees_bracket(reader))),
@@ -77,7 +77,7 @@ fn read_part(reader: &mut Reader<'_>, part: Part) -> Result<u32, Refused> {
 }
 
 /// What reading the part gives: a place, a number that was read, or 1 for yes. None where the text has no tokens.
-fn read_of(alloc: Global, text: &str, part: Part) -> Option<Result<u32, Refused>> {
+fn read_of(alloc: Global, text: &str, part: Part) -> Option<Result<u32, StepError>> {
     if text.len() >= 1 << 32 {
         return None;
     }
@@ -116,23 +116,23 @@ fn reads_parts(rt: HostRuntime) {
 #[test]
 fn refuses_parts(rt: HostRuntime) {
     let texts = [
-        ("A", Part::Emit, Refused::Unexpected(0)),
-        (" 10", Part::Number, Refused::Unexpected(1)),
-        ("if", Part::NameAt, Refused::Unexpected(0)),
-        (" A", Part::Nothing, Refused::Unexpected(1)),
-        ("a < b < c) ", Part::Tested, Refused::Unexpected(0)),
-        ("", Part::Name, Refused::EndOfText(0)),
-        ("1 +", Part::Outermost, Refused::EndOfText(3)),
-        ("(1, ", Part::Arguments, Refused::EndOfText(4)),
-        ("(((1)))", Part::Outermost, Refused::DeepNesting(2)),
-        ("(((1)))", Part::Tested, Refused::DeepNesting(2)),
+        ("A", Part::Emit, StepError::Unexpected(0)),
+        (" 10", Part::Number, StepError::Unexpected(1)),
+        ("if", Part::NameAt, StepError::Unexpected(0)),
+        (" A", Part::Nothing, StepError::Unexpected(1)),
+        ("a < b < c) ", Part::Tested, StepError::Unexpected(0)),
+        ("", Part::Name, StepError::EndOfText(0)),
+        ("1 +", Part::Outermost, StepError::EndOfText(3)),
+        ("(1, ", Part::Arguments, StepError::EndOfText(4)),
+        ("(((1)))", Part::Outermost, StepError::DeepNesting(2)),
+        ("(((1)))", Part::Tested, StepError::DeepNesting(2)),
         (
             "-9223372036854775808",
             Part::Outermost,
-            Refused::NumberLarge(1),
+            StepError::NumberLarge(1),
         ),
-        ("65,", Part::Times, Refused::BadCount(0)),
-        ("0,", Part::Times, Refused::BadCount(0)),
+        ("65,", Part::Times, StepError::BadCount(0)),
+        ("0,", Part::Times, StepError::BadCount(0)),
     ];
     for (text, part, refused) in texts {
         assert!(rt; read_of(rt.alloc(), text, part) == Some(Err(refused)));
@@ -154,6 +154,6 @@ fn counts_leaves_and_operators(rt: HostRuntime) {
     assert!(rt; read_of(rt.alloc(), largest.as_str(), Part::Outermost) == Some(Ok(0)));
     let larger = sum_of(rt.alloc(), 513).expect(&rt, "a text");
     assert!(rt;
-        read_of(rt.alloc(), larger.as_str(), Part::Outermost) == Some(Err(Refused::ExprLarge(1024)))
+        read_of(rt.alloc(), larger.as_str(), Part::Outermost) == Some(Err(StepError::ExprLarge(1024)))
     );
 }

@@ -4,10 +4,10 @@ use Rattle.std.proofs.lemmas.List.{length-append}
 use Rattle.grammar.specs.Tokens.{Tok, Alphabet, kind_of, place_of, passes, how_many, in_range}
 use Rattle.grammar.specs.Fault.{Fault, Unexpected, EndOfText, Deep, Large, OutOfRange, Refusal}
 use Rattle.grammar.specs.Language.{Lang}
-use Rattle.grammar.specs.Parser.{Input, Parser, Outcome}
+use Rattle.grammar.specs.Parser.{Unread, Parser, Parsed}
 
 -- the same input with other tokens
-abbrev pub from : {K : Type 0} → Input K → List (Tok K) → Input K
+abbrev pub from : {K : Type 0} → Unread K → List (Tok K) → Unread K
 from i ts = record i { rest = ts }
 
 -- the first of a list, if there is one, is such
@@ -84,7 +84,7 @@ Nested {K} al n used = (b : List (Tok K)) (t : Tok K) (c : List (Tok K)) → use
 
 -- What was read is a text of the language, and depends on no more than its tokens and the kind of the next one. n: how many brackets may be opened before;
 -- m: how many behind.
-pub record Took {K A : Type 0} (al : Alphabet K) (v : Level) (n m : ℕ) (p : Parser K A) (s : Lang K A) (i : Input K) (a : A) (j : Input K) : Type 0 where
+pub record Took {K A : Type 0} (al : Alphabet K) (v : Level) (n m : ℕ) (p : Parser K A) (s : Lang K A) (i : Unread K) (a : A) (j : Unread K) : Type 0 where
   pub used : List (Tok K)
   pub marks : List ℕ
   pub split : i.rest ≡ used ++ j.rest
@@ -105,7 +105,7 @@ pub record Completes {K A : Type 0} (v : Level) (s : Lang K A) (used : List (Tok
   pub fills : Fills v count f back
 
 -- Where reading stopped, texts of the language go on.
-pub record Stopped {K A : Type 0} (al : Alphabet K) (v : Level) (n : ℕ) (p : Parser K A) (s : Lang K A) (i : Input K) (e : Refusal) : Type 0 where
+pub record Stopped {K A : Type 0} (al : Alphabet K) (v : Level) (n : ℕ) (p : Parser K A) (s : Lang K A) (i : Unread K) (e : Refusal) : Type 0 where
   pub used : List (Tok K)
   pub at : List (Tok K)
   pub front : List ℕ
@@ -121,7 +121,7 @@ pub record Stopped {K A : Type 0} (al : Alphabet K) (v : Level) (n : ℕ) (p : P
   pub goes : (start : List (Tok K)) → Starts e.fault at start → Completes v s used front count e.fault start
 
 -- x: how many more brackets the language may have open than are read. Where it may have more, texts go on behind each fault.
-abbrev pub Sound : {K A : Type 0} → Alphabet K → ℕ → Level → ℕ → ℕ → Parser K A → Lang K A → Input K → Outcome K A → Type 0
+abbrev pub Sound : {K A : Type 0} → Alphabet K → ℕ → Level → ℕ → ℕ → Parser K A → Lang K A → Unread K → Parsed K A → Type 0
 Sound al x v n m p s i (Ok q) = Took al v n m p s i q.0 q.1
 Sound al x v n m p s i (Err e) = 0 < x → Stopped al v n p s i e
 
@@ -140,7 +140,7 @@ IsLimit x v c ms Large = v.over c ms
 IsLimit x v c ms (OutOfRange least most) = ⊥
 
 -- a text of the language is read, or a limit is met in it
-abbrev pub Kept : {K A : Type 0} → ℕ → Level → ℕ → List ℕ → Outcome K A → A → List (Tok K) → Type 0
+abbrev pub Kept : {K A : Type 0} → ℕ → Level → ℕ → List ℕ → Parsed K A → A → List (Tok K) → Type 0
 Kept x v c ms (Ok q) a r = (q.0 ≡ a) × (q.1.rest ≡ r) × v.after c ms q.1.count
 Kept x v c ms (Err e) a r = IsLimit x v c ms e.fault
 
@@ -153,12 +153,12 @@ Sample {K} {A} s = (a : A) × (u : List (Tok K)) × (ms : List ℕ) × s a u ms
 -- empty: whether a text may be empty. first: what may begin one. cont: what may not stand behind one.
 pub record Good {K A : Type 0} (al : Alphabet K) (x : ℕ) (v : Level) (n m : ℕ) (p : Parser K A) (s : Lang K A) (empty : Bool) (first cont : K → Bool) : Type 0 where
   -- what is read is a text of the language, and where reading stops one goes on
-  pub sound : (i : Input K) → Sound al x v n m p s i (p i)
+  pub sound : (i : Unread K) → Sound al x v n m p s i (p i)
   -- what completes the parts behind a fault
   pub sample : 0 < x → Sample s
   pub begins : (a : A) (u : List (Tok K)) (ms : List ℕ) → s a u ms → Begins empty first u
   -- each text of the language is read, or a limit is met
-  pub kept : (i : Input K) (a : A) (u r : List (Tok K)) (ms : List ℕ) → i.rest ≡ u ++ r → s a u ms → passes cont (kind_of r) ≡ false → Kept x v i.count ms (p i) a r
+  pub kept : (i : Unread K) (a : A) (u r : List (Tok K)) (ms : List ℕ) → i.rest ≡ u ++ r → s a u ms → passes cont (kind_of r) ≡ false → Kept x v i.count ms (p i) a r
 
 -- ---- small facts
 
@@ -233,14 +233,14 @@ module _ {K : Type 0} (al : Alphabet K) where
 
 -- ---- what was read took a token
 
-pub shorter_by : {K : Type 0} (first : K → Bool) (u : List (Tok K)) (i j : Input K) → Begins false first u → i.rest ≡ u ++ j.rest → length j.rest < length i.rest
+pub shorter_by : {K : Type 0} (first : K → Bool) (u : List (Tok K)) (i j : Unread K) → Begins false first u → i.rest ≡ u ++ j.rest → length j.rest < length i.rest
 shorter_by first [] i j b e = absurd (let no : ⊥ = cc in no)
 shorter_by first (y ∷ u) i j b e = omega (arith, ap length e, length-append u j.rest)
 
 module _ {K A : Type 0} {al : Alphabet K} {x : ℕ} {v : Level} {n m : ℕ} {p : Parser K A} {s : Lang K A} {empty : Bool} {first cont : K → Bool} where
-  pub took : Good al x v n m p s empty first cont → (i : Input K) (q : A × Input K) → p i ≡ Ok q → Took al v n m p s i q.0 q.1
+  pub took : Good al x v n m p s empty first cont → (i : Unread K) (q : A × Unread K) → p i ≡ Ok q → Took al v n m p s i q.0 q.1
   took g i q e = subst (λ o. Sound al x v n m p s i o) e (g.sound i)
 
 module _ {K A : Type 0} {al : Alphabet K} {x : ℕ} {v : Level} {n m : ℕ} {p : Parser K A} {s : Lang K A} {first cont : K → Bool} where
-  pub shorter : Good al x v n m p s false first cont → (i : Input K) (q : A × Input K) → p i ≡ Ok q → length q.1.rest < length i.rest
+  pub shorter : Good al x v n m p s false first cont → (i : Unread K) (q : A × Unread K) → p i ≡ Ok q → length q.1.rest < length i.rest
   shorter g i q e = let t = took g i q e in shorter_by first t.used i q.1 (g.begins q.0 t.used t.marks t.spells) t.split

@@ -6,7 +6,7 @@ use Rattle.grammar.specs.Tokens.{Tok, Alphabet}
 use Rattle.grammar.specs.Fault.{Fault, Unexpected, EndOfText, Deep, Large, OutOfRange, Refusal}
 use Rattle.grammar.specs.Language as l
 use Rattle.grammar.specs.Language.{Lang}
-use Rattle.grammar.specs.Parser.{Parser, Outcome, start, whole}
+use Rattle.grammar.specs.Parser.{Parser, Parsed, start, whole}
 use Rattle.grammar.specs.Texts.{Counts, Text, Within, Viable, Clean, IsPastLimit, FaultAt, FirstFault}
 use Rattle.grammar.proofs.Bundle.{Kept, Good}
 use Rattle.grammar.proofs.Levels.{outer_level}
@@ -78,7 +78,7 @@ module _ {K A : Type 0} (al : Alphabet K) (texts : ℕ → Lang K A) (p : Parser
   kept_at : (ts : List (Tok K)) (b : A) (z : Text al texts b ts) → Kept z.1.0 (outer_level al) 0 z.0 (whole p (start ts 0)) b []
   kept_at ts b z = (good_whole (g z.1.0)).kept (start ts 0) b ts [] z.0 (sym (append-nil ts)) (subst (λ n. texts n b ts z.0) (sym (deeper-sum al.most_open z.1.0)) z.1.1) refl
 
-  alone_by : (ts : List (Tok K)) (a b : A) (o : Outcome K A) → whole p (start ts 0) ≡ o → Within al texts a ts → Text al texts b ts → b ≡ a
+  alone_by : (ts : List (Tok K)) (a b : A) (o : Parsed K A) → whole p (start ts 0) ≡ o → Within al texts a ts → Text al texts b ts → b ≡ a
   alone_by ts a b (Ok q) e y z =
       let read : q.0 ≡ a = is_read al texts p g {E = Refusal} (λ r. Some r) 0 ts (Ok q.0) q.1 e a y in
       sym (subst (λ o. Kept z.1.0 (outer_level al) 0 z.0 o b []) e (kept_at ts b z)).0 ∙ read

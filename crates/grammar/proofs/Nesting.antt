@@ -5,7 +5,7 @@ use Rattle.grammar.specs.Tokens.{Tok, Alphabet, is, is_opening, kind_of, place_o
 use Rattle.grammar.specs.Fault.{Fault, Unexpected, EndOfText, Deep, Refusal}
 use Rattle.grammar.specs.Language as l
 use Rattle.grammar.specs.Language.{Lang}
-use Rattle.grammar.specs.Parser.{Input, Parser, closed, opened, too_deep, sees, kind, here, why}
+use Rattle.grammar.specs.Parser.{Unread, Parser, closed, opened, too_deep, sees, kind, place, why}
 use Rattle.grammar.proofs.KindSets.{both, is_kind, is_self, or_right, every, every_by}
 use Rattle.grammar.proofs.Bundle.{from, Firsts, Level, Fills, Completes, Stopped, Sound, Begins, Kept, Sample, Good}
 use Rattle.grammar.proofs.Sequences.{good_then, fit}
@@ -21,7 +21,7 @@ deeper-sum zero x = omega arith
 deeper-sum (suc n) x = omega (arith, deeper-sum n x)
 
 -- nothing is read, and nothing is a text
-pub good_nothing : {K A : Type 0} {al : Alphabet K} {v : Level} {n m : ℕ} {empty : Bool} {first cont : K → Bool} (p : Parser K A) → ((i : Input K) → (r : Refusal) × (p i ≡ Err r)) → Good al 0 v n m p l.nothing empty first cont
+pub good_nothing : {K A : Type 0} {al : Alphabet K} {v : Level} {n m : ℕ} {empty : Bool} {first cont : K → Bool} (p : Parser K A) → ((i : Unread K) → (r : Refusal) × (p i ≡ Err r)) → Good al 0 v n m p l.nothing empty first cont
 good_nothing {al = al} {v} {n} {m} p refused = record {
   sound = λ i. let r = refused i in subst (λ o. Sound al 0 v n m p l.nothing i o) (sym r.1) (λ lt. let no : ⊥ = omega (arith, lt) in absurd no);
   sample = λ lt. let no : ⊥ = omega (arith, lt) in absurd no;
@@ -35,7 +35,7 @@ module _ {K A : Type 0} (al : Alphabet K) (v : Level) (n : ℕ) (q : Parser K A)
   goes_by : (c : ℕ) (f : Fault) (start : List (Tok K)) → Fills v c f w.2 → start ≡ [] → Completes v s [] [] c f start
   goes_by c f start fills e = record { answer = w.0; more = w.1; back = w.2; spells = subst (λ z. s w.0 (z ++ w.1) w.2) (sym e) w.3; fills = fills }
 
-  pub refuses : (i : Input K) (ts : List (Tok K)) → i.rest ≡ ts → ((r : List (Tok K)) → kind_of r ≡ kind_of ts → q (from i r) ≡ Err (record { place = place_of i.size r; fault = why (kind_of r) }))
+  pub refuses : (i : Unread K) (ts : List (Tok K)) → i.rest ≡ ts → ((r : List (Tok K)) → kind_of r ≡ kind_of ts → q (from i r) ≡ Err (record { place = place_of i.size r; fault = why (kind_of r) }))
       → Stopped al v n q s i (record { place = place_of i.size ts; fault = why (kind_of ts) })
   refuses i [] e same = stops_at al v n q s i EndOfText [] e refl tt local (λ start c. goes_by i.count EndOfText start tt c)
     where
@@ -54,14 +54,14 @@ module _ {K B : Type 0} (al : Alphabet K) (v : Level) (a : K) (t : ℕ → Lang 
   abbrev opening : Lang K B
   opening = l.◌>>=◌ (l.token a) t
 
-  closed_as : (i : Input K) (ts : List (Tok K)) (b : Bool) → i.rest ≡ ts → passes (is al a) (kind_of ts) ≡ b → closed {A = B} al a i ≡ Err (record { place = place_of i.size ts; fault = cond b Deep (why (kind_of ts)) })
-  unfolding too_deep sees kind here
+  closed_as : (i : Unread K) (ts : List (Tok K)) (b : Bool) → i.rest ≡ ts → passes (is al a) (kind_of ts) ≡ b → closed {A = B} al a i ≡ Err (record { place = place_of i.size ts; fault = cond b Deep (why (kind_of ts)) })
+  unfolding too_deep sees kind place
   closed_as i ts b e h = rw (e, h) refl
 
   opened_with : ((n : ℕ) → Sample (t n)) → (u : Tok K) → u.kind ≡ a → (b : B) × (more : List (Tok K)) × (ms : List ℕ) × opening b (u ∷ more) ms
   opened_with rest u e = let w = rest u.place in (w.0, w.1, 0 ∷ w.2, (u.place, u ∷ [], w.1, 0 ∷ [], w.2, refl, refl, (u, refl, e, refl, refl), w.3))
 
-  deep : ((n : ℕ) → Sample (t n)) → (i : Input K) (u : Tok K) (ts : List (Tok K)) → i.rest ≡ u ∷ ts → is al a u.kind ≡ true → Stopped al v 0 (closed al a) opening i (record { place = u.place; fault = Deep })
+  deep : ((n : ℕ) → Sample (t n)) → (i : Unread K) (u : Tok K) (ts : List (Tok K)) → i.rest ≡ u ∷ ts → is al a u.kind ≡ true → Stopped al v 0 (closed al a) opening i (record { place = u.place; fault = Deep })
   deep rest i u ts e h = stops_at al v 0 (closed al a) opening i Deep (u ∷ ts) e opens_it (omega arith) local goes
     where
       kind_it : u.kind ≡ a
@@ -82,7 +82,7 @@ module _ {K B : Type 0} (al : Alphabet K) (v : Level) (a : K) (t : ℕ → Lang 
   closed_sample : ((n : ℕ) → Sample (t n)) → Sample opening
   closed_sample rest = let u : Tok K = record { place = 0; kind = a; text = []; value = 0 } in let w = opened_with rest u refl in (w.0, u ∷ w.1, w.2, w.3)
 
-  closed_sound : (x : ℕ) (m : ℕ) → (0 < x → (n : ℕ) → Sample (t n)) → (i : Input K) (ts : List (Tok K)) (b : Bool) → i.rest ≡ ts → passes (is al a) (kind_of ts) ≡ b → Sound al x v 0 m (closed al a) opening i (Err (record { place = place_of i.size ts; fault = cond b Deep (why (kind_of ts)) }))
+  closed_sound : (x : ℕ) (m : ℕ) → (0 < x → (n : ℕ) → Sample (t n)) → (i : Unread K) (ts : List (Tok K)) (b : Bool) → i.rest ≡ ts → passes (is al a) (kind_of ts) ≡ b → Sound al x v 0 m (closed al a) opening i (Err (record { place = place_of i.size ts; fault = cond b Deep (why (kind_of ts)) }))
   closed_sound x m rest i [] true e h = λ lt. absurd (let no : ⊥ = cc in no)
   closed_sound x m rest i (u ∷ ts) true e h = λ lt. deep (rest lt) i u ts e h
   closed_sound x m rest i ts false e h = λ lt. refuses al v 0 (closed al a) opening (closed_sample (rest lt)) i ts e (λ r c. closed_as (from i r) r false refl (ap (passes (is al a)) c ∙ h))
@@ -90,7 +90,7 @@ module _ {K B : Type 0} (al : Alphabet K) (v : Level) (a : K) (t : ℕ → Lang 
   closed_begins : (b : B) (u : List (Tok K)) (ms : List ℕ) → opening b u ms → Begins false (is al a) u
   closed_begins b u ms y = rw (y.5, y.7.1) (subst (λ k. is al a k ≡ true) (sym y.7.2) (is_self al a))
 
-  closed_kept : (x : ℕ) → 0 < x → (i : Input K) (b : B) (u r : List (Tok K)) (ms : List ℕ) → i.rest ≡ u ++ r → opening b u ms → Kept x v i.count ms (closed al a i) b r
+  closed_kept : (x : ℕ) → 0 < x → (i : Unread K) (b : B) (u r : List (Tok K)) (ms : List ℕ) → i.rest ≡ u ++ r → opening b u ms → Kept x v i.count ms (closed al a i) b r
   closed_kept x lt i b u r ms e y =
       let split : i.rest ≡ y.7.0 ∷ (y.2 ++ r) = e ∙ ap (λ z. z ++ r) (y.5 ∙ ap (λ z. z ++ y.2) y.7.1) in
       let seen : is al a y.7.0.kind ≡ true = subst (λ k. is al a k ≡ true) (sym y.7.2) (is_self al a) in

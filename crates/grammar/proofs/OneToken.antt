@@ -6,14 +6,14 @@ use Rattle.grammar.specs.Tokens.{Tok, Alphabet, is, is_plain, is_opening, is_clo
 use Rattle.grammar.specs.Fault.{Fault, Unexpected, EndOfText, Deep, Large, OutOfRange}
 use Rattle.grammar.specs.Language as l
 use Rattle.grammar.specs.Language.{Lang}
-use Rattle.grammar.specs.Parser.{Input, Parser, Outcome, one, take, name, ranged, counted, mark, sees, kind, here, text, value, next, refusal, fail}
+use Rattle.grammar.specs.Parser.{Unread, Parser, Parsed, one, take, name, ranged, counted, counted_token, sees, kind, place, text, value, next, refusal, fail}
 use Rattle.grammar.proofs.KindSets.{subset, both, not_true, implied, is_kind, is_self}
 use Rattle.grammar.proofs.Bundle.{from, Firsts, Level, Here, Alike, Starts, Fills, Bottom, Nested, Completes, Stopped, Sound, Begins, Kept, Good, nested_nil}
 use Rattle.grammar.proofs.Levels.{inner_level}
 
 -- ---- reading stops at the next token
 
-pub stops_at : {K A : Type 0} (al : Alphabet K) (v : Level) (n : ℕ) (q : Parser K A) (s : Lang K A) (i : Input K) (f : Fault) (ts : List (Tok K)) → i.rest ≡ ts → Here al f ts → Bottom al n f []
+pub stops_at : {K A : Type 0} (al : Alphabet K) (v : Level) (n : ℕ) (q : Parser K A) (s : Lang K A) (i : Unread K) (f : Fault) (ts : List (Tok K)) → i.rest ≡ ts → Here al f ts → Bottom al n f []
     → ((r : List (Tok K)) → Alike f ts r → q (from i r) ≡ Err (record { place = place_of i.size r; fault = f })) → ((start : List (Tok K)) → Starts f ts start → Completes v s [] [] i.count f start)
     → Stopped al v n q s i (record { place = place_of i.size ts; fault = f })
 stops_at al v n q s i f ts split stands bottom local goes = record {
@@ -34,11 +34,11 @@ stops_at al v n q s i f ts split stands bottom local goes = record {
 
 -- ---- readers of one token, by what each makes of it
 
-abbrev judged : {K A : Type 0} → Result A Fault → Input K → Tok K → List (Tok K) → Outcome K A
+abbrev judged : {K A : Type 0} → Result A Fault → Unread K → Tok K → List (Tok K) → Parsed K A
 judged (Ok a) i t ts = Ok (a, from i ts)
 judged (Err f) i t ts = Err (record { place = t.place; fault = f })
 
-abbrev by_token_at : {K A : Type 0} → (Tok K → Result A Fault) → Input K → List (Tok K) → Outcome K A
+abbrev by_token_at : {K A : Type 0} → (Tok K → Result A Fault) → Unread K → List (Tok K) → Parsed K A
 by_token_at judge i [] = Err (record { place = i.size; fault = EndOfText })
 by_token_at judge i (t ∷ ts) = judged (judge t) i t ts
 
@@ -58,7 +58,7 @@ Fair {K} {A} judge (OutOfRange least most) t =
 -- The reader takes one token or refuses it, and the language has the texts of one token that it takes.
 pub record Single {K A : Type 0} (p : Parser K A) (s : Lang K A) (test : K → Bool) : Type 0 where
   pub judge : Tok K → Result A Fault
-  pub reads : (i : Input K) → p i ≡ by_token judge i
+  pub reads : (i : Unread K) → p i ≡ by_token judge i
   pub spells : (t : Tok K) (a : A) → judge t ≡ Ok a → s a (t ∷ []) (0 ∷ [])
   pub is_one : (a : A) (u : List (Tok K)) (ms : List ℕ) → s a u ms → (t : Tok K) × (u ≡ t ∷ []) × (judge t ≡ Ok a) × (ms ≡ 0 ∷ [])
   pub in_test : (t : Tok K) (a : A) → judge t ≡ Ok a → test t.kind ≡ true
@@ -72,7 +72,7 @@ pub record Turns {K : Type 0} (al : Alphabet K) (n m : ℕ) (test : K → Bool) 
 
 -- where such a reader refuses, for the language of one token with a mark
 module _ {K A : Type 0} (al : Alphabet K) (v : Level) (n : ℕ) (q : Parser K A) (s : Lang K A) (w : ℕ) (judge : Tok K → Result A Fault) (put : (t : Tok K) (a : A) → judge t ≡ Ok a → s a (t ∷ []) (w ∷ []))
-    (ends : (i : Input K) → i.rest ≡ [] → q i ≡ Err (record { place = i.size; fault = EndOfText })) (refuses : (i : Input K) (t : Tok K) (ts : List (Tok K)) (f : Fault) → i.rest ≡ t ∷ ts → judge t ≡ Err f → q i ≡ Err (record { place = t.place; fault = f }))
+    (ends : (i : Unread K) → i.rest ≡ [] → q i ≡ Err (record { place = i.size; fault = EndOfText })) (refuses : (i : Unread K) (t : Tok K) (ts : List (Tok K)) (f : Fault) → i.rest ≡ t ∷ ts → judge t ≡ Err f → q i ≡ Err (record { place = t.place; fault = f }))
     (example : (t : Tok K) × (a : A) × (judge t ≡ Ok a)) where
   example_goes : (c : ℕ) (f : Fault) (start : List (Tok K)) → Fills v c f (w ∷ []) → start ≡ [] → Completes v s [] [] c f start
   example_goes c f start fills e = record {
@@ -83,14 +83,14 @@ module _ {K A : Type 0} (al : Alphabet K) (v : Level) (n : ℕ) (q : Parser K A)
     fills = fills;
   }
 
-  end_stops : (i : Input K) → i.rest ≡ [] → Stopped al v n q s i (record { place = i.size; fault = EndOfText })
+  end_stops : (i : Unread K) → i.rest ≡ [] → Stopped al v n q s i (record { place = i.size; fault = EndOfText })
   end_stops i e = stops_at al v n q s i EndOfText [] e refl tt local (λ start c. example_goes i.count EndOfText start tt c)
     where
       local : (r : List (Tok K)) → Firsts (λ t u. t ≡ u) [] r → q (from i r) ≡ Err (record { place = place_of i.size r; fault = EndOfText })
       local [] h = ends (from i []) refl
       local (t ∷ r) h = absurd h
 
-  token_stops : (i : Input K) (t : Tok K) (ts : List (Tok K)) (f : Fault) → i.rest ≡ t ∷ ts → judge t ≡ Err f → Fair judge f t → Stopped al v n q s i (record { place = t.place; fault = f })
+  token_stops : (i : Unread K) (t : Tok K) (ts : List (Tok K)) (f : Fault) → i.rest ≡ t ∷ ts → judge t ≡ Err f → Fair judge f t → Stopped al v n q s i (record { place = t.place; fault = f })
   token_stops i t ts Unexpected e j h = stops_at al v n q s i Unexpected (t ∷ ts) e tt tt local (λ start c. example_goes i.count Unexpected start tt c)
     where
       local : (r : List (Tok K)) → Firsts (λ t u. t ≡ u) (t ∷ ts) r → q (from i r) ≡ Err (record { place = place_of i.size r; fault = Unexpected })
@@ -129,17 +129,17 @@ nested_one {K} al n t some b u c e o = only_first b u c e o
     only_first (y ∷ z ∷ b) u c e o = absurd (let no : ⊥ = cc in no)
 
 module _ {K A : Type 0} {p : Parser K A} {s : Lang K A} {test : K → Bool} (g : Single p s test) where
-  reads_at : (i : Input K) (ts : List (Tok K)) → i.rest ≡ ts → p i ≡ by_token_at g.judge i ts
+  reads_at : (i : Unread K) (ts : List (Tok K)) → i.rest ≡ ts → p i ≡ by_token_at g.judge i ts
   reads_at i ts e = g.reads i ∙ ap (by_token_at g.judge i) e
 
-  reads_token : (i : Input K) (t : Tok K) (ts : List (Tok K)) (o : Result A Fault) → i.rest ≡ t ∷ ts → g.judge t ≡ o → p i ≡ judged o i t ts
+  reads_token : (i : Unread K) (t : Tok K) (ts : List (Tok K)) (o : Result A Fault) → i.rest ≡ t ∷ ts → g.judge t ≡ o → p i ≡ judged o i t ts
   reads_token i t ts o e j = reads_at i (t ∷ ts) e ∙ ap (λ z. judged z i t ts) j
 
   single_begins : (a : A) (u : List (Tok K)) (ms : List ℕ) → s a u ms → Begins false test u
   single_begins a u ms y = let t = g.is_one a u ms y in rw t.1 (g.in_test t.0 a t.2)
 
   module _ (al : Alphabet K) (x : ℕ) (v : Level) (n m : ℕ) (turns : Turns al n m test) where
-    single_by : (i : Input K) (t : Tok K) (ts : List (Tok K)) (o : Result A Fault) → i.rest ≡ t ∷ ts → g.judge t ≡ o → Sound al x v n m p s i (judged o i t ts)
+    single_by : (i : Unread K) (t : Tok K) (ts : List (Tok K)) (o : Result A Fault) → i.rest ≡ t ∷ ts → g.judge t ≡ o → Sound al x v n m p s i (judged o i t ts)
     single_by i t ts (Ok a) e j = record {
       used = t ∷ [];
       marks = 0 ∷ [];
@@ -154,11 +154,11 @@ module _ {K A : Type 0} {p : Parser K A} {s : Lang K A} {test : K → Bool} (g :
     }
     single_by i t ts (Err f) e j = λ lt. token_stops al v n p s 0 g.judge g.spells (λ i e. reads_at i [] e) (λ i t ts f e j. reads_token i t ts (Err f) e j) g.example i t ts f e j (g.fair t f j)
 
-    single_sound : (i : Input K) (ts : List (Tok K)) → i.rest ≡ ts → Sound al x v n m p s i (by_token_at g.judge i ts)
+    single_sound : (i : Unread K) (ts : List (Tok K)) → i.rest ≡ ts → Sound al x v n m p s i (by_token_at g.judge i ts)
     single_sound i [] e = λ lt. end_stops al v n p s 0 g.judge g.spells (λ i e. reads_at i [] e) (λ i t ts f e j. reads_token i t ts (Err f) e j) g.example i e
     single_sound i (t ∷ ts) e = single_by i t ts (g.judge t) e refl
 
-    single_kept : (i : Input K) (a : A) (u r : List (Tok K)) (ms : List ℕ) → i.rest ≡ u ++ r → s a u ms → Kept x v i.count ms (p i) a r
+    single_kept : (i : Unread K) (a : A) (u r : List (Tok K)) (ms : List ℕ) → i.rest ≡ u ++ r → s a u ms → Kept x v i.count ms (p i) a r
     single_kept i a u r ms e y =
         let t = g.is_one a u ms y in
         let split : i.rest ≡ t.0 ∷ r = e ∙ ap (λ z. z ++ r) t.1 in
@@ -176,16 +176,16 @@ good_single {al = al} {x} {v} {n} {m} {p} {s} {test} g turns = record {
 -- ---- a leaf or an operator
 
 module _ {K A : Type 0} {p : Parser K A} {s : Lang K A} {test : K → Bool} (g : Single p s test) (al : Alphabet K) where
-  counted_at : (i : Input K) (t : Tok K) (ts : List (Tok K)) (a : A) (b : Bool) → i.rest ≡ t ∷ ts → g.judge t ≡ Ok a → nat_lt i.count al.most_counted ≡ b
+  counted_at : (i : Unread K) (t : Tok K) (ts : List (Tok K)) (a : A) (b : Bool) → i.rest ≡ t ∷ ts → g.judge t ≡ Ok a → nat_lt i.count al.most_counted ≡ b
       → counted al p i ≡ cond b (Ok (a, record i { rest = ts; count = i.count + 1 })) (Err (record { place = t.place; fault = Large }))
-  unfolding counted fail here
+  unfolding counted fail place
   counted_at i t ts a b e j h = rw (reads_token g i t ts (Ok a) e j, e, h) refl
 
-  counted_refuses : (i : Input K) (t : Tok K) (ts : List (Tok K)) (f : Fault) → i.rest ≡ t ∷ ts → g.judge t ≡ Err f → counted al p i ≡ Err (record { place = t.place; fault = f })
+  counted_refuses : (i : Unread K) (t : Tok K) (ts : List (Tok K)) (f : Fault) → i.rest ≡ t ∷ ts → g.judge t ≡ Err f → counted al p i ≡ Err (record { place = t.place; fault = f })
   unfolding counted
   counted_refuses i t ts f e j = rw (reads_token g i t ts (Err f) e j) refl
 
-  counted_ends : (i : Input K) → i.rest ≡ [] → counted al p i ≡ Err (record { place = i.size; fault = EndOfText })
+  counted_ends : (i : Unread K) → i.rest ≡ [] → counted al p i ≡ Err (record { place = i.size; fault = EndOfText })
   unfolding counted
   counted_ends i e = rw (reads_at g i [] e) refl
 
@@ -193,7 +193,7 @@ module _ {K A : Type 0} {p : Parser K A} {s : Lang K A} {test : K → Bool} (g :
   put_one t a j = (g.spells t a j, refl)
 
   module _ (x n : ℕ) (turns : Turns al n n test) where
-    large_stops : (i : Input K) (t : Tok K) (ts : List (Tok K)) (a : A) → i.rest ≡ t ∷ ts → g.judge t ≡ Ok a → nat_lt i.count al.most_counted ≡ false
+    large_stops : (i : Unread K) (t : Tok K) (ts : List (Tok K)) (a : A) → i.rest ≡ t ∷ ts → g.judge t ≡ Ok a → nat_lt i.count al.most_counted ≡ false
         → Stopped al (inner_level al) n (counted al p) (l.counted s) i (record { place = t.place; fault = Large })
     unfolding inner_level
     large_stops i t ts a e j h = stops_at al (inner_level al) n (counted al p) (l.counted s) i Large (t ∷ ts) e tt tt local goes
@@ -211,7 +211,7 @@ module _ {K A : Type 0} {p : Parser K A} {s : Lang K A} {test : K → Bool} (g :
           fills = (refl, ltb-false i.count al.most_counted h);
         }
 
-    one_more : (i : Input K) (t : Tok K) (ts : List (Tok K)) (a : A) (b : Bool) → i.rest ≡ t ∷ ts → g.judge t ≡ Ok a → nat_lt i.count al.most_counted ≡ b
+    one_more : (i : Unread K) (t : Tok K) (ts : List (Tok K)) (a : A) (b : Bool) → i.rest ≡ t ∷ ts → g.judge t ≡ Ok a → nat_lt i.count al.most_counted ≡ b
         → Sound al x (inner_level al) n n (counted al p) (l.counted s) i (cond b (Ok (a, record i { rest = ts; count = i.count + 1 })) (Err (record { place = t.place; fault = Large })))
     unfolding inner_level
     one_more i t ts a true e j h = record {
@@ -228,25 +228,25 @@ module _ {K A : Type 0} {p : Parser K A} {s : Lang K A} {test : K → Bool} (g :
     }
     one_more i t ts a false e j h = λ lt. large_stops i t ts a e j h
 
-    counted_by : (i : Input K) (t : Tok K) (ts : List (Tok K)) (o : Result A Fault) → i.rest ≡ t ∷ ts → g.judge t ≡ o → Sound al x (inner_level al) n n (counted al p) (l.counted s) i (counted al p i)
+    counted_by : (i : Unread K) (t : Tok K) (ts : List (Tok K)) (o : Result A Fault) → i.rest ≡ t ∷ ts → g.judge t ≡ o → Sound al x (inner_level al) n n (counted al p) (l.counted s) i (counted al p i)
     counted_by i t ts (Ok a) e j = subst (λ o. Sound al x (inner_level al) n n (counted al p) (l.counted s) i o) (sym (counted_at i t ts a (nat_lt i.count al.most_counted) e j refl)) (one_more i t ts a (nat_lt i.count al.most_counted) e j refl)
     counted_by i t ts (Err f) e j =
         subst (λ o. Sound al x (inner_level al) n n (counted al p) (l.counted s) i o) (sym (counted_refuses i t ts f e j))
         (λ lt. token_stops al (inner_level al) n (counted al p) (l.counted s) 1 g.judge put_one counted_ends counted_refuses g.example i t ts f e j (g.fair t f j))
 
-    counted_sound : (i : Input K) (ts : List (Tok K)) → i.rest ≡ ts → Sound al x (inner_level al) n n (counted al p) (l.counted s) i (counted al p i)
+    counted_sound : (i : Unread K) (ts : List (Tok K)) → i.rest ≡ ts → Sound al x (inner_level al) n n (counted al p) (l.counted s) i (counted al p i)
     counted_sound i [] e =
         subst (λ o. Sound al x (inner_level al) n n (counted al p) (l.counted s) i o) (sym (counted_ends i e))
         (λ lt. end_stops al (inner_level al) n (counted al p) (l.counted s) 1 g.judge put_one counted_ends counted_refuses g.example i e)
     counted_sound i (t ∷ ts) e = counted_by i t ts (g.judge t) e refl
 
-    kept_by : (i : Input K) (t : Tok K) (a : A) (r : List (Tok K)) (b : Bool) → nat_lt i.count al.most_counted ≡ b
+    kept_by : (i : Unread K) (t : Tok K) (a : A) (r : List (Tok K)) (b : Bool) → nat_lt i.count al.most_counted ≡ b
         → Kept x (inner_level al) i.count (1 ∷ []) (cond b (Ok (a, record i { rest = r; count = i.count + 1 })) (Err (record { place = t.place; fault = Large }))) a r
     unfolding inner_level
     kept_by i t a r true h = (refl, refl, (omega arith, λ le. omega (arith, ltb-true i.count al.most_counted h)))
     kept_by i t a r false h = omega (arith, ltb-false i.count al.most_counted h)
 
-    counted_kept : (i : Input K) (a : A) (u r : List (Tok K)) (ms : List ℕ) → i.rest ≡ u ++ r → l.counted s a u ms → Kept x (inner_level al) i.count ms (counted al p i) a r
+    counted_kept : (i : Unread K) (a : A) (u r : List (Tok K)) (ms : List ℕ) → i.rest ≡ u ++ r → l.counted s a u ms → Kept x (inner_level al) i.count ms (counted al p i) a r
     counted_kept i a u r ms e y =
         let t = g.is_one a u (0 ∷ []) y.0 in
         let split : i.rest ≡ t.0 ∷ r = e ∙ ap (λ z. z ++ r) t.1 in
@@ -342,12 +342,12 @@ module _ {K A : Type 0} (test : K → Bool) (make : ℕ → List ℕ → ℕ →
   judge_one : (b : Bool) → Tok K → Result A Fault
   judge_one b t = cond b (Ok (make t.place t.text t.value)) (Err Unexpected)
 
-  one_at : (i : Input K) (ts : List (Tok K)) → i.rest ≡ ts → one test make i ≡ by_token_at (λ t. judge_one (test t.kind) t) i ts
-  unfolding one sees kind here text value next refusal judge_one
+  one_at : (i : Unread K) (ts : List (Tok K)) → i.rest ≡ ts → one test make i ≡ by_token_at (λ t. judge_one (test t.kind) t) i ts
+  unfolding one sees kind place text value next refusal judge_one
   one_at i [] e = rw e refl
   one_at i (t ∷ ts) e = rw e (by_test (from i (t ∷ ts)) (test t.kind))
     where
-      by_test : (j : Input K) (b : Bool) → cond {A = Outcome K A} b (Ok (make t.place t.text t.value, from j ts)) (Err (record { place = t.place; fault = Unexpected })) ≡ judged (cond {A = Result A Fault} b (Ok (make t.place t.text t.value)) (Err Unexpected)) j t ts
+      by_test : (j : Unread K) (b : Bool) → cond {A = Parsed K A} b (Ok (make t.place t.text t.value, from j ts)) (Err (record { place = t.place; fault = Unexpected })) ≡ judged (cond {A = Result A Fault} b (Ok (make t.place t.text t.value)) (Err Unexpected)) j t ts
       by_test j true = refl
       by_test j false = refl
 
@@ -378,7 +378,7 @@ module _ {K A : Type 0} (test : K → Bool) (make : ℕ → List ℕ → ℕ →
   }
 
 -- a reader that answers alike, for a language of the same texts
-pub single_as : {K A : Type 0} {test : K → Bool} (p q : Parser K A) (s t : Lang K A) → ((i : Input K) → q i ≡ p i) → ((a : A) (u : List (Tok K)) (ms : List ℕ) → s a u ms → t a u ms) → ((a : A) (u : List (Tok K)) (ms : List ℕ) → t a u ms → s a u ms)
+pub single_as : {K A : Type 0} {test : K → Bool} (p q : Parser K A) (s t : Lang K A) → ((i : Unread K) → q i ≡ p i) → ((a : A) (u : List (Tok K)) (ms : List ℕ) → s a u ms → t a u ms) → ((a : A) (u : List (Tok K)) (ms : List ℕ) → t a u ms → s a u ms)
     → Single p s test → Single q t test
 single_as p q s t same to back g = record {
   judge = g.judge;
@@ -418,12 +418,12 @@ module _ {K A : Type 0} (test : K → Bool) (least most : ℕ) (f : Fault) (make
   judge_of : Tok K → Result A Fault
   judge_of t = judge_in (test t.kind) (in_range least most t.value) t
 
-  ranged_at : (i : Input K) (ts : List (Tok K)) → i.rest ≡ ts → ranged test least most f make i ≡ by_token_at judge_of i ts
-  unfolding ranged sees kind here text value next refusal fail judge_of judge_in
+  ranged_at : (i : Unread K) (ts : List (Tok K)) → i.rest ≡ ts → ranged test least most f make i ≡ by_token_at judge_of i ts
+  unfolding ranged sees kind place text value next refusal fail judge_of judge_in
   ranged_at i [] e = rw e refl
   ranged_at i (t ∷ ts) e = rw e (by_tests (from i (t ∷ ts)) (test t.kind) (in_range least most t.value))
     where
-      by_tests : (j : Input K) (b c : Bool) → cond {A = Outcome K A} b (cond {A = Outcome K A} c (Ok (make t.place t.text t.value, from j ts)) (Err (record { place = t.place; fault = f }))) (Err (record { place = t.place; fault = Unexpected })) ≡ judged (judge_in b c t) j t ts
+      by_tests : (j : Unread K) (b c : Bool) → cond {A = Parsed K A} b (cond {A = Parsed K A} c (Ok (make t.place t.text t.value, from j ts)) (Err (record { place = t.place; fault = f }))) (Err (record { place = t.place; fault = Unexpected })) ≡ judged (judge_in b c t) j t ts
       by_tests j true true = refl
       by_tests j true false = refl
       by_tests j false c = refl
@@ -491,9 +491,9 @@ module _ {K : Type 0} {al : Alphabet K} {x n : ℕ} where
   good_close a e = good_single (single_take al a) (turns_closing al n a e)
 
   -- a leaf or operator of this kind
-  pub good_mark : (a : K) → is_plain al a ≡ true → Good al x (inner_level al) n n (mark al a) (l.mark a) false (is al a) never
-  unfolding mark
-  good_mark a e = good_counted_by (single_take al a) (turns_kind al n a e)
+  pub good_counted_token : (a : K) → is_plain al a ≡ true → Good al x (inner_level al) n n (counted_token al a) (l.counted_token a) false (is al a) never
+  unfolding counted_token
+  good_counted_token a e = good_counted_by (single_take al a) (turns_kind al n a e)
 
   -- a token by what it is of one token, of kinds that are no brackets
   pub good_one : {A : Type 0} {v : Level} {p : Parser K A} {s : Lang K A} {test : K → Bool} → Single p s test → subset al test (is_plain al) ≡ true → Good al x v n n p s false test never

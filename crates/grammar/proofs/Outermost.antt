@@ -4,7 +4,7 @@ use Rattle.grammar.specs.Tokens.{Tok, Alphabet}
 use Rattle.grammar.specs.Fault.{Fault, Unexpected, EndOfText, Deep, Large, OutOfRange}
 use Rattle.grammar.specs.Language as l
 use Rattle.grammar.specs.Language.{Lang, ranks}
-use Rattle.grammar.specs.Parser.{Input, Parser, Outcome, outer}
+use Rattle.grammar.specs.Parser.{Unread, Parser, Parsed, outer}
 use Rattle.grammar.proofs.Bundle.{First, Fills, Sound, IsLimit, Kept, Good}
 use Rattle.grammar.proofs.Levels.{marked, inner_level, outer_level, few_ranks, many_ranks, ranks-append, length-ranks}
 
@@ -39,7 +39,7 @@ module _ {K : Type 0} (al : Alphabet K) where
   outer_limit x c ms (OutOfRange least most) h = h
 
   module _ {A : Type 0} (x n m : ℕ) (p : Parser K A) (s : Lang K A) where
-    outer_sound : (i : Input K) (o : Outcome K A) → Sound al x (inner_level al) n m p s (record i { count = 0 }) o → Sound al x (outer_level al) n m (outer p) (l.outer s) i o
+    outer_sound : (i : Unread K) (o : Parsed K A) → Sound al x (inner_level al) n m p s (record i { count = 0 }) o → Sound al x (outer_level al) n m (outer p) (l.outer s) i o
     unfolding inner_level outer_level
     outer_sound i (Ok q) h = record {
       used = h.used;
@@ -77,7 +77,7 @@ module _ {K : Type 0} (al : Alphabet K) where
           };
     }
 
-    outer_kept : (c : ℕ) (ms : List ℕ) (o : Outcome K A) (a : A) (r : List (Tok K)) → Kept x (inner_level al) 0 ms o a r → Kept x (outer_level al) c (ranks 0 ms) o a r
+    outer_kept : (c : ℕ) (ms : List ℕ) (o : Parsed K A) (a : A) (r : List (Tok K)) → Kept x (inner_level al) 0 ms o a r → Kept x (outer_level al) c (ranks 0 ms) o a r
     unfolding inner_level outer_level
     outer_kept c ms (Ok q) a r h = (h.0, h.1, few_ranks al 0 ms (few_after ms q.1.count h.2))
     outer_kept c ms (Err e) a r h = outer_limit x c ms e.fault h

@@ -6,7 +6,7 @@ use Rattle.grammar.specs.Tokens.{Tok, Alphabet, kind_of, place_of, passes, how_m
 use Rattle.grammar.specs.Fault.{Fault, Unexpected, EndOfText, Deep, Large, OutOfRange, Refusal}
 use Rattle.grammar.specs.Language as l
 use Rattle.grammar.specs.Language.{Lang}
-use Rattle.grammar.specs.Parser.{Input, Parser, Outcome, and_then, ◌>>=◌, pure}
+use Rattle.grammar.specs.Parser.{Unread, Parser, Parsed, and_then, ◌>>=◌, pure}
 use Rattle.grammar.proofs.KindSets.{subset, disjoint, both, implies_of, or_left, or_right, apart, within, within_next}
 use Rattle.grammar.proofs.Bundle.{from, First, Level, Fills, Bottom, Took, Stopped, Sound, Begins, IsLimit, Kept, Sample, Good, kind_front, alike_kind, how_many-append, nested_nil, nested-append}
 
@@ -47,17 +47,17 @@ limit_right x v c b ms ns (OutOfRange least most) a h = h
 -- ---- one after the other
 
 module _ {K A B : Type 0} (al : Alphabet K) (x : ℕ) (v : Level) (n m k : ℕ) (p : Parser K A) (next : A → Parser K B) (s : Lang K A) (t : A → Lang K B) where
-  seq_local : (i : Input K) (a : A) (j : Input K) (took : Took al v n m p s i a j) (w y r : List (Tok K)) → j.rest ≡ w ++ y → kind_of r ≡ kind_of y → (p >>= next) (from i ((took.used ++ w) ++ r)) ≡ next a (from j (w ++ r))
+  seq_local : (i : Unread K) (a : A) (j : Unread K) (took : Took al v n m p s i a j) (w y r : List (Tok K)) → j.rest ≡ w ++ y → kind_of r ≡ kind_of y → (p >>= next) (from i ((took.used ++ w) ++ r)) ≡ next a (from j (w ++ r))
   seq_local i a j took w y r e h =
       ap (λ z. and_then (p (from i z)) next) (append_assoc took.used w r) ∙ ap (λ o. and_then o next) (took.local (w ++ r) (kind_front w r y h ∙ ap kind_of (sym e)))
 
-  seq_split : (i : Input K) (a : A) (j : Input K) (took : Took al v n m p s i a j) (w y : List (Tok K)) → j.rest ≡ w ++ y → i.rest ≡ (took.used ++ w) ++ y
+  seq_split : (i : Unread K) (a : A) (j : Unread K) (took : Took al v n m p s i a j) (w y : List (Tok K)) → j.rest ≡ w ++ y → i.rest ≡ (took.used ++ w) ++ y
   seq_split i a j took w y e = took.split ∙ ap (λ z. took.used ++ z) e ∙ sym (append_assoc took.used w y)
 
   seq_aligned : (ms ns : List ℕ) (u w : List (Tok K)) → length ms ≡ length u → length ns ≡ length w → length (ms ++ ns) ≡ length (u ++ w)
   seq_aligned ms ns u w e h = omega (arith, length-append ms ns, length-append u w, e, h)
 
-  seq_then : (i : Input K) (a : A) (j : Input K) → Took al v n m p s i a j → (o : Outcome K B) → Sound al x v m k (next a) (t a) j o → Sound al x v n k (p >>= next) (l.◌>>=◌ s t) i o
+  seq_then : (i : Unread K) (a : A) (j : Unread K) → Took al v n m p s i a j → (o : Parsed K B) → Sound al x v m k (next a) (t a) j o → Sound al x v n k (p >>= next) (l.◌>>=◌ s t) i o
   seq_then i a j took (Ok q) h = record {
     used = took.used ++ h.used;
     marks = took.marks ++ h.marks;
@@ -94,7 +94,7 @@ module _ {K A B : Type 0} (al : Alphabet K) (x : ℕ) (v : Level) (n m k : ℕ) 
         };
   }
 
-  seq_stopped : (sample : (a : A) → Sample (t a)) (i : Input K) (e : Refusal) → Stopped al v n p s i e → Stopped al v n (p >>= next) (l.◌>>=◌ s t) i e
+  seq_stopped : (sample : (a : A) → Sample (t a)) (i : Unread K) (e : Refusal) → Stopped al v n p s i e → Stopped al v n (p >>= next) (l.◌>>=◌ s t) i e
   seq_stopped sample i e h = record {
     used = h.used;
     at = h.at;
@@ -130,16 +130,16 @@ module _ {K A B : Type 0} (al : Alphabet K) (x : ℕ) (v : Level) (n m k : ℕ) 
         };
   }
 
-  pub seq_sound : (sample : 0 < x → (a : A) → Sample (t a)) (i : Input K) (o : Outcome K A) → Sound al x v n m p s i o → ((q : A × Input K) → o ≡ Ok q → Sound al x v m k (next q.0) (t q.0) q.1 (next q.0 q.1)) → Sound al x v n k (p >>= next) (l.◌>>=◌ s t) i (and_then o next)
+  pub seq_sound : (sample : 0 < x → (a : A) → Sample (t a)) (i : Unread K) (o : Parsed K A) → Sound al x v n m p s i o → ((q : A × Unread K) → o ≡ Ok q → Sound al x v m k (next q.0) (t q.0) q.1 (next q.0 q.1)) → Sound al x v n k (p >>= next) (l.◌>>=◌ s t) i (and_then o next)
   seq_sound sample i (Ok q) h then = seq_then i q.0 q.1 h (next q.0 q.1) (then q refl)
   seq_sound sample i (Err e) h then = λ lt. seq_stopped (sample lt) i e (h lt)
 
-kept_right : {K B : Type 0} (x : ℕ) (v : Level) (c b : ℕ) (ms ns : List ℕ) (o : Outcome K B) (a : B) (r : List (Tok K)) → v.after c ms b → Kept x v b ns o a r → Kept x v c (ms ++ ns) o a r
+kept_right : {K B : Type 0} (x : ℕ) (v : Level) (c b : ℕ) (ms ns : List ℕ) (o : Parsed K B) (a : B) (r : List (Tok K)) → v.after c ms b → Kept x v b ns o a r → Kept x v c (ms ++ ns) o a r
 kept_right x v c b ms ns (Ok q) a r af h = (h.0, h.1, v.after_seq c b q.1.count ms ns af h.2)
 kept_right x v c b ms ns (Err e) a r af h = limit_right x v c b ms ns e.fault af h
 
-pub seq_kept : {K A B : Type 0} (x : ℕ) (v : Level) (next : A → Parser K B) (c : ℕ) (ms ns : List ℕ) (o : Outcome K A) (a : A) (b : B) (y r : List (Tok K)) → Kept x v c ms o a (y ++ r)
-    → ((q : A × Input K) → o ≡ Ok q → q.0 ≡ a → q.1.rest ≡ y ++ r → Kept x v q.1.count ns (next q.0 q.1) b r) → Kept x v c (ms ++ ns) (and_then o next) b r
+pub seq_kept : {K A B : Type 0} (x : ℕ) (v : Level) (next : A → Parser K B) (c : ℕ) (ms ns : List ℕ) (o : Parsed K A) (a : A) (b : B) (y r : List (Tok K)) → Kept x v c ms o a (y ++ r)
+    → ((q : A × Unread K) → o ≡ Ok q → q.0 ≡ a → q.1.rest ≡ y ++ r → Kept x v q.1.count ns (next q.0 q.1) b r) → Kept x v c (ms ++ ns) (and_then o next) b r
 seq_kept x v next c ms ns (Ok q) a b y r h then = kept_right x v c q.1.count ms ns (next q.0 q.1) b r h.2 (then q refl h.0 h.1)
 seq_kept x v next c ms ns (Err e) a b y r h then = limit_left x v c ms ns e.fault h
 

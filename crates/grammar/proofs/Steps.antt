@@ -4,7 +4,7 @@ use Rattle.std.specs.Prelude.{IsErrAnd}
 use Rattle.std.proofs.lemmas.Result.{err_from_is_err_and}
 use Rattle.grammar.specs.Tokens.{Tok, kind_of, passes}
 use Rattle.grammar.specs.Fault.{Refusal}
-use Rattle.grammar.specs.Parser.{Input, Parser, Outcome, Reads, and_then, sees, kind, next, tail_of}
+use Rattle.grammar.specs.Parser.{Unread, Parser, Parsed, Reads, and_then, sees, kind, next, tail_of}
 
 -- where a bracket may be opened, a rule is that of one less behind it
 pub room_left : {X : Type 0} (rule : ℕ → X) (room : ℕ) → room ≢ 0 → rule room ≡ rule (suc (room - 1))
@@ -12,20 +12,20 @@ room_left rule room some = let e : room ≡ suc (room - 1) = omega arith in ap r
 
 module _ {K A B : Type 0} where
   -- behind what was read, the rest decides
-  pub then_ok : (o : Outcome K A) (f : A → Parser K B) (a : A) (j : Input K) (last : Outcome K B) → o ≡ Ok (a, j) → f a j ≡ last → and_then o f ≡ last
+  pub then_ok : (o : Parsed K A) (f : A → Parser K B) (a : A) (j : Unread K) (last : Parsed K B) → o ≡ Ok (a, j) → f a j ≡ last → and_then o f ≡ last
   then_ok o f a j last e h = ap (λ z. and_then z f) e ∙ h
 
   -- a refusal stays
-  pub then_err : (o : Outcome K A) (f : A → Parser K B) (r : Refusal) → o ≡ Err r → and_then o f ≡ Err r
+  pub then_err : (o : Parsed K A) (f : A → Parser K B) (r : Refusal) → o ≡ Err r → and_then o f ≡ Err r
   then_err o f r e = ap (λ z. and_then z f) e
 
 -- the next token is of a kind of the set
-pub sees_kind : {K : Type 0} (test : K → Bool) (i : Input K) (b : Bool) → passes test (kind i) ≡ b → sees test i ≡ b
+pub sees_kind : {K : Type 0} (test : K → Bool) (i : Unread K) (b : Bool) → passes test (kind i) ≡ b → sees test i ≡ b
 unfolding sees
 sees_kind test i b e = e
 
 -- behind a token that is there, less is left
-pub next_shorter : {K : Type 0} (test : K → Bool) (i : Input K) → sees test i ≡ true → length (next i).rest < length i.rest
+pub next_shorter : {K : Type 0} (test : K → Bool) (i : Unread K) → sees test i ≡ true → length (next i).rest < length i.rest
 unfolding next sees kind
 next_shorter {K} test i e = by_rest i.rest e
   where
@@ -34,7 +34,7 @@ next_shorter {K} test i e = by_rest i.rest e
     by_rest (t ∷ ts) h = omega arith
 
 -- an exit by `?`: its error is the one that the call gave
-pub reads_exit : {K A E : Type 0} (seen : E → Option Refusal) (outcome : Outcome K A) (new : Input K) (result : Result A E) (given : E) → IsErrAnd result (λ e. e ≡ given) → ((r : Refusal) → seen given ≡ Some r → outcome ≡ Err r) → Reads seen outcome result new
+pub reads_exit : {K A E : Type 0} (seen : E → Option Refusal) (outcome : Parsed K A) (new : Unread K) (result : Result A E) (given : E) → IsErrAnd result (λ e. e ≡ given) → ((r : Refusal) → seen given ≡ Some r → outcome ≡ Err r) → Reads seen outcome result new
 reads_exit {E = E} seen outcome new result given exit h =
     let p = err_from_is_err_and result exit in
     rw (p.1, p.2) h

@@ -6,7 +6,7 @@ use Rattle.grammar.specs.Tokens.{Tok, Alphabet, kind_of, place_of, passes, never
 use Rattle.grammar.specs.Fault.{Fault, Unexpected, EndOfText, Deep, Large, OutOfRange, Refusal}
 use Rattle.grammar.specs.Language as l
 use Rattle.grammar.specs.Language.{Lang}
-use Rattle.grammar.specs.Parser.{Input, Parser, Outcome, Reads, and_then, ◌>>=◌, pure, start, finish, whole, kind, here, refusal, why}
+use Rattle.grammar.specs.Parser.{Unread, Parser, Parsed, Reads, and_then, ◌>>=◌, pure, start, finish, whole, kind, place, refusal, why}
 use Rattle.grammar.specs.Texts.{Few, Within, Viable, Clean, IsPastLimit, FaultAt, FirstFault, ReadAs}
 use Rattle.grammar.proofs.KindSets.{every_by, subset, or_right}
 use Rattle.grammar.proofs.Bundle.{from, First, Level, Here, Alike, Starts, Bottom, Nested, Completes, Stopped, Sound, IsLimit, Kept, Good, nested_nil, took}
@@ -20,12 +20,12 @@ use Rattle.grammar.proofs.Nesting.{deeper, deeper-sum, refuses}
 abbrev ended : {K : Type 0} → Lang K (Unit {0})
 ended = l.pure tt
 
-finish_as : {K : Type 0} (i : Input K) (ts : List (Tok K)) → i.rest ≡ ts → finish i ≡ cond (is_none (kind_of ts)) (Ok (tt, i)) (Err (record { place = place_of i.size ts; fault = why (kind_of ts) }))
-unfolding finish kind refusal here
+finish_as : {K : Type 0} (i : Unread K) (ts : List (Tok K)) → i.rest ≡ ts → finish i ≡ cond (is_none (kind_of ts)) (Ok (tt, i)) (Err (record { place = place_of i.size ts; fault = why (kind_of ts) }))
+unfolding finish kind refusal place
 finish_as i ts e = rw (sym e) refl
 
 module _ {K : Type 0} (al : Alphabet K) (x : ℕ) (v : Level) (n : ℕ) where
-  finish_sound : (i : Input K) (ts : List (Tok K)) → i.rest ≡ ts → Sound al x v n n finish ended i (cond (is_none (kind_of ts)) (Ok (tt, i)) (Err (record { place = place_of i.size ts; fault = why (kind_of ts) })))
+  finish_sound : (i : Unread K) (ts : List (Tok K)) → i.rest ≡ ts → Sound al x v n n finish ended i (cond (is_none (kind_of ts)) (Ok (tt, i)) (Err (record { place = place_of i.size ts; fault = why (kind_of ts) })))
   finish_sound i [] e = record {
     used = [];
     marks = [];
@@ -36,11 +36,11 @@ module _ {K : Type 0} (al : Alphabet K) (x : ℕ) (v : Level) (n : ℕ) where
     nested = nested_nil al n;
     balance = refl;
     spells = (refl, refl, refl);
-    local = λ r h. finish_as (from i r) r refl ∙ ap (λ k. cond {A = Outcome K (Unit {0})} (is_none k) (Ok (tt, from i r)) (Err (record { place = place_of i.size r; fault = why k }))) (h ∙ ap kind_of e);
+    local = λ r h. finish_as (from i r) r refl ∙ ap (λ k. cond {A = Parsed K (Unit {0})} (is_none k) (Ok (tt, from i r)) (Err (record { place = place_of i.size r; fault = why k }))) (h ∙ ap kind_of e);
   }
   finish_sound i (t ∷ ts) e = λ lt.
       refuses al v n finish ended (tt, [], [], (refl, refl, refl)) i (t ∷ ts) e
-      (λ r h. finish_as (from i r) r refl ∙ ap (λ k. cond {A = Outcome K (Unit {0})} (is_none k) (Ok (tt, from i r)) (Err (record { place = place_of i.size r; fault = why (kind_of r) }))) h)
+      (λ r h. finish_as (from i r) r refl ∙ ap (λ k. cond {A = Parsed K (Unit {0})} (is_none k) (Ok (tt, from i r)) (Err (record { place = place_of i.size r; fault = why (kind_of r) }))) h)
 
   ended_by : (r : List (Tok K)) → passes always (kind_of r) ≡ false → kind_of r ≡ None
   ended_by [] c = refl
@@ -53,7 +53,7 @@ module _ {K : Type 0} (al : Alphabet K) (x : ℕ) (v : Level) (n : ℕ) where
     begins = λ b u ms y. rw y.1 refl;
     kept = λ i a u r ms e y c.
         let split : i.rest ≡ r = e ∙ ap (λ z. z ++ r) y.1 in
-        subst (λ o. Kept x v i.count ms o a r) (sym (finish_as i r split ∙ ap (λ k. cond {A = Outcome K (Unit {0})} (is_none k) (Ok (tt, i)) (Err (record { place = place_of i.size r; fault = why (kind_of r) }))) (ended_by r c)))
+        subst (λ o. Kept x v i.count ms o a r) (sym (finish_as i r split ∙ ap (λ k. cond {A = Parsed K (Unit {0})} (is_none k) (Ok (tt, i)) (Err (record { place = place_of i.size r; fault = why (kind_of r) }))) (ended_by r c)))
         (sym y.0, split, subst (λ z. v.after i.count z i.count) (sym y.2) (v.after_nil i.count));
   }
 
@@ -89,27 +89,27 @@ good_whole {A = A} {al} {x} {v} {n} {p} {s} {cont = cont} g =
 
 -- ---- what was read is all of the text
 
-bind_ok : {K A B : Type 0} (o : Outcome K A) (next : A → Parser K B) (y : B × Input K) → and_then o next ≡ Ok y → (q : A × Input K) × (o ≡ Ok q) × (next q.0 q.1 ≡ Ok y)
+bind_ok : {K A B : Type 0} (o : Parsed K A) (next : A → Parser K B) (y : B × Unread K) → and_then o next ≡ Ok y → (q : A × Unread K) × (o ≡ Ok q) × (next q.0 q.1 ≡ Ok y)
 bind_ok (Ok q) next y e = (q, refl, e)
 bind_ok (Err r) next y e = absurd (let no : ⊥ = cc in no)
 
-outcome_or : {K A : Type 0} → A × Input K → Outcome K A → A × Input K
+outcome_or : {K A : Type 0} → A × Unread K → Parsed K A → A × Unread K
 outcome_or q (Ok y) = y
 outcome_or q (Err r) = q
 
-same_outcome : {K A : Type 0} (q y : A × Input K) → ◌≡◌ {A = Outcome K A} (Ok q) (Ok y) → q ≡ y
+same_outcome : {K A : Type 0} (q y : A × Unread K) → ◌≡◌ {A = Parsed K A} (Ok q) (Ok y) → q ≡ y
 unfolding outcome_or
 same_outcome q y e = ap (outcome_or q) e
 
-finish_ends : {K : Type 0} (i : Input K) (ts : List (Tok K)) (q : (Unit {0}) × Input K) → i.rest ≡ ts → finish i ≡ Ok q → q.1.rest ≡ []
-finish_ends i [] q e h = ap (λ (y : (Unit {0}) × Input _). y.1.rest) (sym (same_outcome (tt, i) q (sym (finish_as i [] e) ∙ h))) ∙ e
+finish_ends : {K : Type 0} (i : Unread K) (ts : List (Tok K)) (q : (Unit {0}) × Unread K) → i.rest ≡ ts → finish i ≡ Ok q → q.1.rest ≡ []
+finish_ends i [] q e h = ap (λ (y : (Unit {0}) × Unread _). y.1.rest) (sym (same_outcome (tt, i) q (sym (finish_as i [] e) ∙ h))) ∙ e
 finish_ends i (t ∷ ts) q e h = absurd (let other = sym (finish_as i (t ∷ ts) e) ∙ h in let no : ⊥ = cc in no)
 
-whole_ends : {K A : Type 0} (p : Parser K A) (i : Input K) (a : A) (j : Input K) → whole p i ≡ Ok (a, j) → j.rest ≡ []
+whole_ends : {K A : Type 0} (p : Parser K A) (i : Unread K) (a : A) (j : Unread K) → whole p i ≡ Ok (a, j) → j.rest ≡ []
 whole_ends {K} {A} p i a j e =
     let x = bind_ok (p i) (λ a. finish >>= λ t. pure a) (a, j) e in
     let y = bind_ok (finish x.0.1) (λ t. pure x.0.0) (a, j) x.2 in
-    ap (λ (q : A × Input K). q.1.rest) (sym (same_outcome (x.0.0, y.0.1) (a, j) y.2)) ∙ finish_ends x.0.1 x.0.1.rest y.0 refl y.1
+    ap (λ (q : A × Unread K). q.1.rest) (sym (same_outcome (x.0.0, y.0.1) (a, j) y.2)) ∙ finish_ends x.0.1 x.0.1.rest y.0 refl y.1
 
 -- ---- what reading a whole text gives
 
@@ -145,7 +145,7 @@ module _ {K A : Type 0} (al : Alphabet K) (texts : ℕ → Lang K A) (p : Parser
   from_shallow a u ks y = subst (λ n. texts n a u ks) (sym no_deeper) y
 
   -- what was read is a text within the limits
-  pub text_found : (size : ℕ) (ts : List (Tok K)) (a : A) (j : Input K) → whole p (start ts size) ≡ Ok (a, j) → Within al texts a ts
+  pub text_found : (size : ℕ) (ts : List (Tok K)) (a : A) (j : Unread K) → whole p (start ts size) ≡ Ok (a, j) → Within al texts a ts
   unfolding outer_level
   text_found size ts a j e =
       let t = took (good_whole (g 0)) (start ts size) (a, j) e in
@@ -172,7 +172,7 @@ module _ {K A : Type 0} (al : Alphabet K) (texts : ℕ → Lang K A) (p : Parser
   not_refused size ts a r e y = few_limit y.0 r.fault y.2 (limit_met 0 size a ts y.0 r e (from_shallow a ts y.0 y.1))
 
   -- a text within the limits is read as its tree
-  text_read : (size : ℕ) (ts : List (Tok K)) (a b : A) (j : Input K) → whole p (start ts size) ≡ Ok (b, j) → Within al texts a ts → b ≡ a
+  text_read : (size : ℕ) (ts : List (Tok K)) (a b : A) (j : Unread K) → whole p (start ts size) ≡ Ok (b, j) → Within al texts a ts → b ≡ a
   text_read size ts a b j e y = (subst (λ o. Kept 0 (outer_level al) 0 y.0 o a []) e (text_kept 0 size a ts y.0 (from_shallow a ts y.0 y.1))).0
 
   -- ---- the fault, where reading stopped
@@ -198,35 +198,35 @@ module _ {K A : Type 0} (al : Alphabet K) (texts : ℕ → Lang K A) (p : Parser
       → ((r : List (Tok K)) → Alike f at r → whole p (start (before ++ r) size) ≡ Err (record { place = place_of size r; fault = f }))
       → ((begin : List (Tok K)) → Starts f at begin → Completes (outer_level al) (texts (deeper al.most_open 1)) before front count f begin) → FaultAt al texts f before at
   unfolding outer_level
-  fault_at size before front count Unexpected [] here bottom aligned local goes = absurd here
-  fault_at size before front count Unexpected (t ∷ at) here bottom aligned local goes =
+  fault_at size before front count Unexpected [] place bottom aligned local goes = absurd place
+  fault_at size before front count Unexpected (t ∷ at) place bottom aligned local goes =
       let w = goes [] refl in
       ((w.answer, w.more, (front ++ w.back, (1, as_more 1 w.answer (before ++ w.more) (front ++ w.back) w.spells))), not_viable size before Unexpected (t ∷ at) local t (λ more. refl) (λ x ks h. h))
-  fault_at size before front count EndOfText [] here bottom aligned local goes =
+  fault_at size before front count EndOfText [] place bottom aligned local goes =
       let w = goes [] refl in (
         (w.answer, w.more, (front ++ w.back, (1, as_more 1 w.answer (before ++ w.more) (front ++ w.back) w.spells))),
         λ a y. meets_limit size before EndOfText [] local a [] y.0 y.1.0 tt (subst (λ z. texts (deeper al.most_open y.1.0) a z y.0) (sym (append-nil before)) (as_deep y.1.0 a before y.0 y.1.1)),
       )
-  fault_at size before front count EndOfText (t ∷ at) here bottom aligned local goes = absurd (let no : ⊥ = cc in no)
-  fault_at size before front count Deep [] here bottom aligned local goes = absurd here
-  fault_at size before front count Deep (t ∷ at) here bottom aligned local goes =
+  fault_at size before front count EndOfText (t ∷ at) place bottom aligned local goes = absurd (let no : ⊥ = cc in no)
+  fault_at size before front count Deep [] place bottom aligned local goes = absurd place
+  fault_at size before front count Deep (t ∷ at) place bottom aligned local goes =
       let w = goes (t ∷ []) refl in (
-        here,
+        place,
         bottom,
         viable_by before w.more t w.answer (front ++ w.back) w.spells,
         λ a more y.
             let none = meets_limit size before Deep (t ∷ at) local a (t ∷ more) y.0 0 refl (subst (λ z. texts (deeper al.most_open 0) a z y.0) (sym (shift before t more)) (from_shallow a ((before ++ t ∷ []) ++ more) y.0 y.1)) in
             let no : ⊥ = omega (arith, none) in no,
       )
-  fault_at size before front count Large [] here bottom aligned local goes = absurd here
-  fault_at size before front count Large (t ∷ at) here bottom aligned local goes =
+  fault_at size before front count Large [] place bottom aligned local goes = absurd place
+  fault_at size before front count Large (t ∷ at) place bottom aligned local goes =
       let w = goes (t ∷ []) refl in (
         past_by before w.more t w.answer front w.back aligned w.fills w.spells,
         λ a more y. meets_limit size before Large (t ∷ at) local a (t ∷ more) y.0 0 refl (subst (λ z. texts (deeper al.most_open 0) a z y.0) (sym (shift before t more)) (from_shallow a ((before ++ t ∷ []) ++ more) y.0 y.1)) y.2,
       )
-  fault_at size before front count (OutOfRange least most) [] here bottom aligned local goes = absurd here
-  fault_at size before front count (OutOfRange least most) (t ∷ at) here bottom aligned local goes = (
-    here.0,
+  fault_at size before front count (OutOfRange least most) [] place bottom aligned local goes = absurd place
+  fault_at size before front count (OutOfRange least most) (t ∷ at) place bottom aligned local goes = (
+    place.0,
     λ u same. (
       λ inside. let w = goes (u ∷ []) (u, refl, same, inside) in viable_by before w.more u w.answer (front ++ w.back) w.spells,
       λ outside. not_viable size before (OutOfRange least most) (t ∷ at) local u (λ more. (same, outside)) (λ x ks h. h),
@@ -235,8 +235,8 @@ module _ {K A : Type 0} (al : Alphabet K) (texts : ℕ → Lang K A) (p : Parser
 
   clean_before : (before at : List (Tok K)) (front : List ℕ) (count : ℕ) (f : Fault) → Here al f at → length front ≡ length before → Few al front → Nested al al.most_open before
       → ((begin : List (Tok K)) → Starts f at begin → Completes (outer_level al) (texts (deeper al.most_open 1)) before front count f begin) → Clean al texts before
-  clean_before before at front count f here aligned few nested goes =
-      let s = some_start al f at here in
+  clean_before before at front count f place aligned few nested goes =
+      let s = some_start al f at place in
       let w = goes s.0 s.1 in
       record {
         brackets = nested;
@@ -263,12 +263,12 @@ module _ {K A : Type 0} (al : Alphabet K) (texts : ℕ → Lang K A) (p : Parser
 
   module _ {E : Type 0} (seen : E → Option Refusal) (size : ℕ) (ts : List (Tok K)) where
     -- what is read is a text within the limits
-    pub is_found : (result : Result A E) (new : Input K) → Reads seen (whole p (start ts size)) result new → IfOk result (λ a. Within al texts a ts)
+    pub is_found : (result : Result A E) (new : Unread K) → Reads seen (whole p (start ts size)) result new → IfOk result (λ a. Within al texts a ts)
     is_found (Ok a) new h = text_found size ts a new h
     is_found (Err e) new h = tt
 
     -- each text within the limits is read as its tree, unless memory runs out
-    pub is_read : (result : Result A E) (new : Input K) → Reads seen (whole p (start ts size)) result new → (a : A) → Within al texts a ts → ReadAs seen a result
+    pub is_read : (result : Result A E) (new : Unread K) → Reads seen (whole p (start ts size)) result new → (a : A) → Within al texts a ts → ReadAs seen a result
     is_read (Ok b) new h a y = text_read size ts a b new h y
     is_read (Err e) new h a y = by_cause (seen e) refl
       where
@@ -277,6 +277,6 @@ module _ {K A : Type 0} (al : Alphabet K) (texts : ℕ → Lang K A) (p : Parser
         by_cause (Some r) c = absurd (not_refused size ts a r (h r c) y)
 
     -- where it refuses, it is the first fault
-    pub is_first : (result : Result A E) (new : Input K) → Reads seen (whole p (start ts size)) result new → IfErr result (λ e. (r : Refusal) → seen e ≡ Some r → FirstFault al texts size ts r)
+    pub is_first : (result : Result A E) (new : Unread K) → Reads seen (whole p (start ts size)) result new → IfErr result (λ e. (r : Refusal) → seen e ≡ Some r → FirstFault al texts size ts r)
     is_first (Ok a) new h = tt
     is_first (Err e) new h = λ r c. text_fault size ts r (h r c)

@@ -29,8 +29,8 @@ abbrev pub counted : {K A : Type 0} → Lang K A → Lang K A
 counted s a text ms = s a text (0 ∷ []) × (ms ≡ 1 ∷ [])
 
 -- one token of this kind, which is a leaf or an operator
-abbrev pub mark : {K : Type 0} → K → Lang K ℕ
-mark a = counted (token a)
+abbrev pub counted_token : {K : Type 0} → K → Lang K ℕ
+counted_token a = counted (token a)
 
 -- one after the other
 infixl 10 ◌>>=◌

@@ -4,22 +4,22 @@ use Rattle.grammar.specs.Tokens.{Tok, Alphabet, is, kind_of, place_of, passes, i
 use Rattle.grammar.specs.Fault.{Fault, Unexpected, EndOfText, Deep, Large, Refusal}
 
 -- What is still to be read, how many leaves and operators of the outermost expression were read, and the size of the whole text.
-pub record Input (K : Type 0) : Type 0 where
+pub record Unread (K : Type 0) : Type 0 where
   pub rest : List (Tok K)
   pub count : ℕ
   pub size : ℕ
 
-abbrev pub Outcome : Type 0 → Type 0 → Type 0
-Outcome K A = Result (A × Input K) Refusal
+abbrev pub Parsed : Type 0 → Type 0 → Type 0
+Parsed K A = Result (A × Unread K) Refusal
 
 abbrev pub Parser : Type 0 → Type 0 → Type 0
-Parser K A = Input K → Outcome K A
+Parser K A = Unread K → Parsed K A
 
 -- a reader at the beginning of a text
-abbrev pub start : {K : Type 0} → List (Tok K) → ℕ → Input K
+abbrev pub start : {K : Type 0} → List (Tok K) → ℕ → Unread K
 start ts size = record { rest = ts; count = 0; size = size }
 
-abbrev pub and_then : {K A B : Type 0} → Outcome K A → (A → Parser K B) → Outcome K B
+abbrev pub and_then : {K A B : Type 0} → Parsed K A → (A → Parser K B) → Parsed K B
 and_then (Ok p) f = f p.0 p.1
 and_then (Err e) f = Err e
 
@@ -50,24 +50,24 @@ abbrev pub tail_of : {K : Type 0} → List (Tok K) → List (Tok K)
 tail_of [] = []
 tail_of (t ∷ ts) = ts
 
-unfoldable pub kind : {K : Type 0} → Input K → Option K
+unfoldable pub kind : {K : Type 0} → Unread K → Option K
 kind i = kind_of i.rest
 
-unfoldable pub here : {K : Type 0} → Input K → ℕ
-here i = place_of i.size i.rest
+unfoldable pub place : {K : Type 0} → Unread K → ℕ
+place i = place_of i.size i.rest
 
-unfoldable pub text : {K : Type 0} → Input K → List ℕ
+unfoldable pub text : {K : Type 0} → Unread K → List ℕ
 text i = text_of i.rest
 
-unfoldable pub value : {K : Type 0} → Input K → ℕ
+unfoldable pub value : {K : Type 0} → Unread K → ℕ
 value i = value_of i.rest
 
 -- the input behind the next token
-unfoldable pub next : {K : Type 0} → Input K → Input K
+unfoldable pub next : {K : Type 0} → Unread K → Unread K
 next i = record i { rest = tail_of i.rest }
 
 -- the next token has a kind of the set
-unfoldable pub sees : {K : Type 0} → (K → Bool) → Input K → Bool
+unfoldable pub sees : {K : Type 0} → (K → Bool) → Unread K → Bool
 sees test i = passes test (kind i)
 
 -- ---- refusals
@@ -77,14 +77,14 @@ why None = EndOfText
 why (Some a) = Unexpected
 
 -- the refusal of the next token, or of the end
-unfoldable pub refusal : {K : Type 0} → Input K → Refusal
-refusal i = record { place = here i; fault = why (kind i) }
+unfoldable pub refusal : {K : Type 0} → Unread K → Refusal
+refusal i = record { place = place i; fault = why (kind i) }
 
 abbrev pub refuse : {K A : Type 0} → Parser K A
 refuse = λ i. Err (refusal i)
 
 unfoldable pub fail : {K A : Type 0} → Fault → Parser K A
-fail f = λ i. Err (record { place = here i; fault = f })
+fail f = λ i. Err (record { place = place i; fault = f })
 
 -- ---- one token
 
@@ -94,31 +94,31 @@ skipped = λ i. Ok (tt, next i)
 
 -- a token of a kind of the set, and what is made of its place, text and value
 unfoldable pub one : {K A : Type 0} → (K → Bool) → (ℕ → List ℕ → ℕ → A) → Parser K A
-one test make = λ i. if sees test i then Ok (make (here i) (text i) (value i), next i) else refuse i
+one test make = λ i. if sees test i then Ok (make (place i) (text i) (value i), next i) else refuse i
 
 -- a token of this kind, which gives its place
 unfoldable pub take : {K : Type 0} → Alphabet K → K → Parser K ℕ
-take al a = λ i. if sees (is al a) i then Ok (here i, next i) else refuse i
+take al a = λ i. if sees (is al a) i then Ok (place i, next i) else refuse i
 
 -- a token that may be a name, which gives its place and its text
 unfoldable pub name : {K : Type 0} → (K → Bool) → Parser K (ℕ × List ℕ)
-name test = λ i. if sees test i then Ok ((here i, text i), next i) else refuse i
+name test = λ i. if sees test i then Ok ((place i, text i), next i) else refuse i
 
 -- a token whose value is in a range. Any other value is refused as this fault: as OutOfRange of the same range, or as Unexpected
 unfoldable pub ranged : {K A : Type 0} → (K → Bool) → ℕ → ℕ → Fault → (ℕ → List ℕ → ℕ → A) → Parser K A
-ranged test least most f make = λ i. if sees test i then (if in_range least most (value i) then Ok (make (here i) (text i) (value i), next i) else fail f i) else refuse i
+ranged test least most f make = λ i. if sees test i then (if in_range least most (value i) then Ok (make (place i) (text i) (value i), next i) else fail f i) else refuse i
 
 -- what is read is a leaf or an operator, if one more may be
 unfoldable pub counted : {K A : Type 0} → Alphabet K → Parser K A → Parser K A
 counted al p = λ i. and_then (p i) (λ a j. if nat_lt j.count al.most_counted then Ok (a, record j { count = j.count + 1 }) else fail Large i)
 
 -- a token of this kind, which is a leaf or an operator
-unfoldable pub mark : {K : Type 0} → Alphabet K → K → Parser K ℕ
-mark al a = counted al (take al a)
+unfoldable pub counted_token : {K : Type 0} → Alphabet K → K → Parser K ℕ
+counted_token al a = counted al (take al a)
 
 -- what is read, and where it begins
 unfoldable pub placed : {K A : Type 0} → Parser K A → Parser K (ℕ × A)
-placed p = λ i. and_then (p i) (λ a. pure (here i, a))
+placed p = λ i. and_then (p i) (λ a. pure (place i, a))
 
 -- nothing is left
 unfoldable pub finish : {K : Type 0} → Parser K (Unit {0})
@@ -134,12 +134,12 @@ whole p = do
 -- ---- choices, brackets, expressions
 
 -- the first where the next token passes the test
-abbrev pub either : {K A : Type 0} → (K → Bool) → Parser K A → Parser K A → Parser K A
-either test p q i = if sees test i then p i else q i
+abbrev pub if_next : {K A : Type 0} → (K → Bool) → Parser K A → Parser K A → Parser K A
+if_next test p q i = if sees test i then p i else q i
 
 -- why no bracket of this kind can be opened
-unfoldable pub too_deep : {K : Type 0} → Alphabet K → K → Input K → Refusal
-too_deep al a i = record { place = here i; fault = if sees (is al a) i then Deep else why (kind i) }
+unfoldable pub too_deep : {K : Type 0} → Alphabet K → K → Unread K → Refusal
+too_deep al a i = record { place = place i; fault = if sees (is al a) i then Deep else why (kind i) }
 
 -- where no bracket of this kind can be opened
 abbrev pub closed : {K A : Type 0} → Alphabet K → K → Parser K A
@@ -170,10 +170,10 @@ many starts p = λ i. many_for (length i.rest) starts p i
 -- ---- what a function that reads ensures
 
 -- The result is the outcome, unless memory runs out. `seen` tells what refusal an error is, None for want of memory.
-abbrev pub Reads : {K A E : Type 0} → (E → Option Refusal) → Outcome K A → Result A E → Input K → Type 0
+abbrev pub Reads : {K A E : Type 0} → (E → Option Refusal) → Parsed K A → Result A E → Unread K → Type 0
 Reads seen outcome (Ok a) new = outcome ≡ Ok (a, new)
 Reads seen outcome (Err e) new = (r : Refusal) → seen e ≡ Some r → outcome ≡ Err r
 
 -- the same for a whole text, of which nothing is left to be read
-abbrev pub Exact : {K A E : Type 0} → (E → Option Refusal) → Outcome K A → Result A E → Type 0
-Exact {K} seen outcome result = (new : Input K) × Reads seen outcome result new
+abbrev pub Exact : {K A E : Type 0} → (E → Option Refusal) → Parsed K A → Result A E → Type 0
+Exact {K} seen outcome result = (new : Unread K) × Reads seen outcome result new

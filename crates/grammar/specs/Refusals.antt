@@ -2,7 +2,7 @@
 use Rattle.std.specs.Prelude.{Option, Some}
 use Rattle.grammar.specs.declared.fault.Fault.{Fault}
 use Rattle.grammar.specs.declared.fault.Fault.TheVariants as f
-use Rattle.grammar.specs.declared.fault.Refused.{Refused}
+use Rattle.grammar.specs.declared.fault.Refusal.{Refusal as ARefusal}
 use Rattle.grammar.specs.Fault as g
 use Rattle.grammar.specs.Fault.{Refusal}
 
@@ -12,9 +12,9 @@ fault_of f.EndOfText = g.EndOfText
 fault_of f.Deep = g.Deep
 fault_of f.Large = g.Large
 
-abbrev pub refusal_of : Refused → Refusal
+abbrev pub refusal_of : ARefusal → Refusal
 refusal_of r = record { place = r.place; fault = fault_of r.fault }
 
 -- each is a refusal: none stands for want of memory
-abbrev pub seen : Refused → Option Refusal
-seen r = Some (refusal_of r)
+abbrev pub as_refusal : ARefusal → Option Refusal
+as_refusal r = Some (refusal_of r)

@@ -3,9 +3,9 @@ ghost use Rattle.std.specs.Prelude.{◌≡◌};
 ghost use Rattle.grammar.specs.Tokens.{is};
 ghost use Rattle.grammar.specs.Parser as parser;
 ghost use Rattle.grammar.specs.Parser.{Reads};
-ghost use Rattle.grammar.specs.Refusals.{fault_of, refusal_of, seen};
+ghost use Rattle.grammar.specs.Refusals.{fault_of, refusal_of, as_refusal};
 
-use crate::fault::{Fault, Refused};
+use crate::fault::{Fault, Refusal};
 use crate::kinds::Kinds;
 use crate::tokens::Tokens;
 use std::marker::Model;
@@ -20,9 +20,9 @@ pub struct Cursor<T: Tokens> {
 }
 
 impl<T: Tokens> Model for Cursor<T> {
-    ghost use Rattle.grammar.specs.Parser.{Input};
+    ghost use Rattle.grammar.specs.Parser.{Unread};
 
-    ghost Value = { Input T.Kind };
+    ghost Value = { Unread T.Kind };
 
     ghost view = { λ c. record { rest = T.left c.tokens; count = c.count; size = c.size } };
 }
@@ -57,9 +57,9 @@ impl<T: Tokens> Cursor<T> {
     }
 
     /// Its place, the size of the text at the end.
-    #[tactic(auto, unfolding(crate::specs::Parser::here))]
-    pub fn here(&self) -> u32
-        ensures { result ≡ parser.here self.now }
+    #[tactic(auto, unfolding(crate::specs::Parser::place))]
+    pub fn place(&self) -> u32
+        ensures { result ≡ parser.place self.now }
     {
         self.tokens.place_or(self.size)
     }
@@ -87,7 +87,7 @@ impl<T: Tokens> Cursor<T> {
 
     /// The refusal of the next token, or of the end.
     #[tactic(auto, unfolding(crate::specs::Parser::refusal))]
-    pub fn refusal(&self) -> Refused
+    pub fn refusal(&self) -> Refusal
         ensures { refusal_of result ≡ parser.refusal self.now }
     {
         match self.kind() {
@@ -97,18 +97,18 @@ impl<T: Tokens> Cursor<T> {
     }
 
     /// This fault at the next token.
-    pub fn fails(&self, fault: Fault) -> Refused
-        ensures { refusal_of result ≡ record { place = parser.here self.now; fault = fault_of fault } }
+    pub fn fails(&self, fault: Fault) -> Refusal
+        ensures { refusal_of result ≡ record { place = parser.place self.now; fault = fault_of fault } }
     {
-        Refused {
-            place: self.here(),
+        Refusal {
+            place: self.place(),
             fault,
         }
     }
 
     /// Why no bracket of this kind can be opened.
     #[tactic(auto, unfolding(crate::specs::Parser::too_deep, crate::specs::Parser::refusal))]
-    pub fn too_deep(&self, bracket: T::Kind) -> Refused
+    pub fn too_deep(&self, bracket: T::Kind) -> Refusal
         ensures { refusal_of result ≡ parser.too_deep T.Kind.alphabet bracket self.now }
     {
         if self.sees(bracket) {
@@ -140,10 +140,10 @@ impl<T: Tokens> Cursor<T> {
     /// # Errors
     /// `Unexpected` at another token, `EndOfText` at the end.
     #[tactic(auto, unfolding(crate::specs::Parser::take))]
-    pub fn take(&mut self, kind: T::Kind) -> Result<u32, Refused>
-        ensures { Reads seen (parser.take T.Kind.alphabet kind self.old) result self.new }
+    pub fn take(&mut self, kind: T::Kind) -> Result<u32, Refusal>
+        ensures { Reads as_refusal (parser.take T.Kind.alphabet kind self.old) result self.new }
     {
-        let place = self.here();
+        let place = self.place();
         if self.sees(kind) {
             self.skip();
             Ok(place)
@@ -157,8 +157,8 @@ impl<T: Tokens> Cursor<T> {
     /// # Errors
     /// `Large` where no more may be counted.
     #[tactic(auto, unfolding(crate::specs::Parser::counted, crate::specs::Parser::skipped, crate::specs::Parser::fail, crate::specs::Parser::next))]
-    pub fn count(&mut self) -> Result<(), Refused>
-        ensures { Reads seen (parser.counted T.Kind.alphabet parser.skipped self.old) result self.new }
+    pub fn skip_counted(&mut self) -> Result<(), Refusal>
+        ensures { Reads as_refusal (parser.counted T.Kind.alphabet parser.skipped self.old) result self.new }
     {
         if self.count >= T::Kind::most_counted() {
             return Err(self.fails(Fault::Large));
@@ -172,15 +172,15 @@ impl<T: Tokens> Cursor<T> {
     ///
     /// # Errors
     /// `Unexpected` at another token, `EndOfText` at the end, `Large` where no more may be counted.
-    #[tactic(auto, unfolding(crate::specs::Parser::mark, crate::specs::Parser::take, crate::specs::Parser::counted, crate::specs::Parser::skipped, crate::specs::Parser::fail, crate::specs::Parser::next))]
-    pub fn mark(&mut self, kind: T::Kind) -> Result<u32, Refused>
-        ensures { Reads seen (parser.mark T.Kind.alphabet kind self.old) result self.new }
+    #[tactic(auto, unfolding(crate::specs::Parser::counted_token, crate::specs::Parser::take, crate::specs::Parser::counted, crate::specs::Parser::skipped, crate::specs::Parser::fail, crate::specs::Parser::next))]
+    pub fn counted_token(&mut self, kind: T::Kind) -> Result<u32, Refusal>
+        ensures { Reads as_refusal (parser.counted_token T.Kind.alphabet kind self.old) result self.new }
     {
-        let place = self.here();
+        let place = self.place();
         if !self.sees(kind) {
             return Err(self.refusal());
         }
-        self.count()?;
+        self.skip_counted()?;
         Ok(place)
     }
 
@@ -189,8 +189,8 @@ impl<T: Tokens> Cursor<T> {
     /// # Errors
     /// `Unexpected` at the next token, where there is one.
     #[tactic(auto, unfolding(crate::specs::Parser::finish))]
-    pub fn finish(&self) -> Result<(), Refused>
-        ensures { Reads seen (parser.finish self.now) result self.now }
+    pub fn finish(&self) -> Result<(), Refusal>
+        ensures { Reads as_refusal (parser.finish self.now) result self.now }
     {
         match self.kind() {
             None => Ok(()),

@@ -22,7 +22,7 @@ pub enum Fault {
 /// A fault and its place: that of its token, or that of the end of the text.
 #[derive(Clone, Copy, PartialEq, Eq, Debug, Error)]
 #[error("{fault}")]
-pub struct Refused {
+pub struct Refusal {
     pub place: u32,
     pub fault: Fault,
 }

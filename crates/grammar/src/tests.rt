@@ -2,7 +2,7 @@
 ghost use Rattle.std.specs.Prelude.{◌≡◌, Bool, true, false, cond, refl, List, [], ◌∷◌, map};
 
 use crate::cursor::Cursor;
-use crate::fault::{Fault, Refused};
+use crate::fault::{Fault, Refusal};
 use crate::kinds::Kinds;
 use crate::tokens::Tokens;
 use std::test::Fail;
@@ -95,9 +95,9 @@ fn steps(rt: HostRuntime) -> Result<(), Fail> {
     assert_eq!(rt; cursor.tokens().place_or(9), 6);
     assert_eq!(rt; cursor.too_deep(BRACKET), refused(6, Fault::Unexpected));
     cursor.skip();
-    assert_eq!(rt; cursor.here(), 9);
+    assert_eq!(rt; cursor.place(), 9);
     assert_eq!(rt; cursor.value(), 0);
-    assert_eq!(rt; cursor.mark(WORD), Err(refused(9, Fault::EndOfText)));
+    assert_eq!(rt; cursor.counted_token(WORD), Err(refused(9, Fault::EndOfText)));
     assert_eq!(rt; cursor.finish(), Ok(()));
     Ok(())
 }
@@ -111,12 +111,12 @@ fn counts(rt: HostRuntime) -> Result<(), Fail> {
         token(6, WORD, 0),
     ];
     let mut cursor = Cursor::new(Lexemes { rest: &tokens }, 7);
-    assert_eq!(rt; cursor.mark(WORD), Ok(0));
-    assert_eq!(rt; cursor.count(), Ok(()));
-    assert_eq!(rt; cursor.count(), Err(refused(4, Fault::Large)));
-    assert_eq!(rt; cursor.mark(WORD), Err(refused(4, Fault::Large)));
+    assert_eq!(rt; cursor.counted_token(WORD), Ok(0));
+    assert_eq!(rt; cursor.skip_counted(), Ok(()));
+    assert_eq!(rt; cursor.skip_counted(), Err(refused(4, Fault::Large)));
+    assert_eq!(rt; cursor.counted_token(WORD), Err(refused(4, Fault::Large)));
     cursor.restart();
-    assert_eq!(rt; cursor.mark(WORD), Ok(4));
+    assert_eq!(rt; cursor.counted_token(WORD), Ok(4));
     Ok(())
 }
 
@@ -127,6 +127,6 @@ fn printed(rt: HostRuntime) -> Result<(), Fail> {
     Ok(())
 }
 
-fn refused(place: u32, fault: Fault) -> Refused {
-    Refused { place, fault }
+fn refused(place: u32, fault: Fault) -> Refusal {
+    Refusal { place, fault }
 }

@@ -15,18 +15,18 @@ use Rattle.host_expr.specs.declared.expr.ExprNode.TheOpen as e
 use Rattle.module_tree.specs.Parentheses.{Levelled, levelled, levelled_node}
 
 -- the texts of tokens, in order
-abbrev pub Tokens : Type 0
-Tokens = List (List ℕ)
+abbrev pub Lexemes : Type 0
+Lexemes = List (List ℕ)
 
 -- a number below zero is two tokens
-abbrev pub tokens_of_integer : ℤ → Tokens
+abbrev pub tokens_of_integer : ℤ → Lexemes
 tokens_of_integer (pos n) = decimal n ∷ []
 tokens_of_integer (negsuc n) = codes "-" ∷ decimal (suc n) ∷ []
 
 abbrev pub token_of_truth : Bool → List ℕ
 token_of_truth b = if b then codes "true" else codes "false"
 
-abbrev pub tokens_of_value : Value → Tokens
+abbrev pub tokens_of_value : Value → Lexemes
 tokens_of_value value.Unit = codes "unit" ∷ []
 tokens_of_value (value.Int n) = tokens_of_integer n
 tokens_of_value (value.Bool b) = token_of_truth b ∷ []
@@ -47,15 +47,15 @@ token_of_rel rel.Le = codes "<="
 token_of_rel rel.Gt = codes ">"
 token_of_rel rel.Ge = codes ">="
 
-abbrev pub in_parentheses : Tokens → Tokens
+abbrev pub in_parentheses : Lexemes → Lexemes
 in_parentheses ts = codes "(" ∷ ts ++ codes ")" ∷ []
 
 -- a signal's name, and the word that says what is read of it
-abbrev pub tokens_of_read : List ℕ → List ℕ → Tokens
+abbrev pub tokens_of_read : List ℕ → List ℕ → Lexemes
 tokens_of_read name word = name ∷ codes "." ∷ word ∷ []
 
 -- a node, with the tokens of its operands as they stand in the text
-abbrev pub node_step : e.ExprNode-F (List ℕ) Tokens Tokens → Tokens
+abbrev pub node_step : e.ExprNode-F (List ℕ) Lexemes Lexemes → Lexemes
 node_step (e.Int n) = tokens_of_integer n
 node_step (e.Bool b) = token_of_truth b ∷ []
 node_step (e.Text t) = quoted t ∷ []
@@ -73,11 +73,11 @@ node_step (e.Or a b) = a ++ codes "||" ∷ b
 node_step (e.Choose a b c) = a ++ (codes "?" ∷ b) ++ (codes ":" ∷ c)
 
 -- the tokens of an expression, and its level
-abbrev pub written : Expr (List ℕ) → Levelled Tokens
+abbrev pub written : Expr (List ℕ) → Levelled Lexemes
 written = levelled in_parentheses node_step
 
-abbrev pub written_node : ExprNode (List ℕ) → Levelled Tokens
+abbrev pub written_node : ExprNode (List ℕ) → Levelled Lexemes
 written_node = levelled_node in_parentheses node_step
 
-abbrev pub tokens_of_expression : Expr (List ℕ) → Tokens
+abbrev pub tokens_of_expression : Expr (List ℕ) → Lexemes
 tokens_of_expression x = (written x).value

@@ -2,7 +2,7 @@
 
 ghost use Rattle.std.specs.Prelude.{◌≡◌, ◌∷◌, ◌++◌, [], codes, map, IfOk, OnOk};
 ghost use Rattle.module_printer.specs.ExpressionTokens.{in_parentheses};
-ghost use Rattle.module_printer.specs.SourceTokens.{comma_separated, tokens_of_outermost, tokens_of_body, tokens_of_host, tokens_of_module, tokens_of_top};
+ghost use Rattle.module_printer.specs.SourceTokens.{comma_separated, tokens_of_outermost, tokens_of_body, tokens_of_host, tokens_of_module, tokens_of_part};
 ghost use Rattle.module_printer.specs.Printed.{spaced, line_of, printed};
 
 mod declarations;
@@ -12,15 +12,15 @@ mod statements;
 #[cfg(test)]
 mod tests;
 
-use crate::print::printer::{Printer, Tokens};
+use crate::print::printer::{Printer, Printable};
 use hh_base::memory::NoMemory;
 use hh_base::name::Name;
-use module_tree::source::{BodyNode, ExprAt, HostNode, ModuleNode, Modules, Top};
+use module_tree::source::{BodyNode, ExprAt, HostNode, ModuleNode, Modules, Part};
 use std::alloc::Global;
 
 impl Printer {
     /// Begins a line with the word of a declaration, its name and its list.
-    fn heading<T: Tokens>(&mut self, word: &str, name: &Name, items: &[T]) -> Result<(), NoMemory>
+    fn heading<T: Printable>(&mut self, word: &str, name: &Name, items: &[T]) -> Result<(), NoMemory>
         ensures { OnOk result (self.new ≡ self.old ++ word.now ++ spaced (name.now ∷ in_parentheses (comma_separated (map T.tokens items.now)))) }
     {
         self.begin_line(word)?;
@@ -39,7 +39,7 @@ impl Printer {
     fn body(&mut self, body: &BodyNode<Name>) -> Result<(), NoMemory>
         ensures { OnOk result (self.new ≡ self.old ++ line_of (tokens_of_body body.now)) }
     {
-        self.heading("body", &body.name, body.params.as_slice())?;
+        self.heading("body", &body.name, body.parameters.as_slice())?;
         self.typed(body.answer)?;
         self.braced(&body.expr)?;
         self.end_line()
@@ -48,7 +48,7 @@ impl Printer {
     fn host(&mut self, host: &HostNode) -> Result<(), NoMemory>
         ensures { OnOk result (self.new ≡ self.old ++ line_of (tokens_of_host host.now)) }
     {
-        self.heading("host", &host.name, host.params.as_slice())?;
+        self.heading("host", &host.name, host.parameters.as_slice())?;
         self.typed(host.answer)?;
         self.token(";")?;
         self.end_line()
@@ -57,26 +57,26 @@ impl Printer {
     fn module(&mut self, node: &ModuleNode<Name>) -> Result<(), NoMemory>
         ensures { OnOk result (self.new ≡ self.old ++ line_of (tokens_of_module node.now)) }
     {
-        self.heading("module", &node.name, node.decls.as_slice())?;
+        self.heading("module", &node.name, node.interface.as_slice())?;
         self.block(&node.block)?;
         self.end_line()
     }
 
-    fn top(&mut self, top: &Top<Name>) -> Result<(), NoMemory>
-        ensures { OnOk result (self.new ≡ self.old ++ line_of (tokens_of_top top.now)) }
+    fn part(&mut self, part: &Part<Name>) -> Result<(), NoMemory>
+        ensures { OnOk result (self.new ≡ self.old ++ line_of (tokens_of_part part.now)) }
     {
-        match top {
-            Top::Body(body) => self.body(body),
-            Top::Host(host) => self.host(host),
-            Top::Module(module) => self.module(module),
+        match part {
+            Part::Body(body) => self.body(body),
+            Part::Host(host) => self.host(host),
+            Part::Module(module) => self.module(module),
         }
     }
 
-    fn tops(&mut self, tops: &[Top<Name>]) -> Result<(), NoMemory>
-        ensures { OnOk result (self.new ≡ self.old ++ printed tops.now) }
+    fn parts(&mut self, parts: &[Part<Name>]) -> Result<(), NoMemory>
+        ensures { OnOk result (self.new ≡ self.old ++ printed parts.now) }
     {
-        for top in tops {
-            self.top(top)?;
+        for part in parts {
+            self.part(part)?;
         }
         Ok(())
     }
@@ -88,6 +88,6 @@ pub fn print(alloc: Global, modules: &Modules) -> Result<Vec<u8>, NoMemory>
     ensures { IfOk result (λ v. v.items ≡ printed modules.now) }
 {
     let mut printer = Printer::new(alloc);
-    printer.tops(modules.tops())?;
+    printer.parts(modules.parts())?;
     Ok(printer.into_bytes())
 }

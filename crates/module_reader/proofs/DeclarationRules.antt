@@ -22,7 +22,7 @@ use Rattle.grammar.proofs.Combined.{good_made}
 use Rattle.expression_reader.specs.declared.terminal.Terminal.{Terminal}
 use Rattle.expression_reader.specs.declared.terminal.Terminal.TheVariants as t
 use Rattle.expression_reader.specs.Terminals.{symbols, is_name, is_keyword, is_punct}
-use Rattle.expression_reader.specs.Trees.{at}
+use Rattle.expression_reader.specs.Trees.{pos_at}
 use Rattle.expression_reader.specs.Rules as eg
 use Rattle.module_reader.specs.Rules as g
 use Rattle.expression_reader.specs.Rules.{is_quoted, is_number, largest}
@@ -50,16 +50,16 @@ abbrev pub behind_signal : Terminal → Bool
 behind_signal a = is_punct k.Colon a || (is_punct k.Equal a || is_keyword w.Combine a)
 
 module _ {v : Level} {x n : ℕ} where
-  good_type_by : (word : Keyword) (what : Kind) → Rule v x n (p.type_by word what) (g.type_by word what) false (is_keyword word) never
-  good_type_by word what = good_made (λ m. what) (good_keyword word)
+  good_kind_by : (word : Keyword) (what : Kind) → Rule v x n (p.kind_by word what) (g.kind_by word what) false (is_keyword word) never
+  good_kind_by word what = good_made (λ m. what) (good_keyword word)
 
   pub good_valued : Rule v x n p.valued g.valued false begins_valued never
   unfolding p.valued
-  good_valued = good_or (is_keyword w.Int) never (good_type_by w.Int kind.Int) (good_or (is_keyword w.Bool) never (good_type_by w.Bool kind.Bool) (good_type_by w.Text kind.Text) refl) refl
+  good_valued = good_or (is_keyword w.Int) never (good_kind_by w.Int kind.Int) (good_or (is_keyword w.Bool) never (good_kind_by w.Bool kind.Bool) (good_kind_by w.Text kind.Text) refl) refl
 
-  pub good_type : Rule v x n p.any_type g.type false begins_type never
-  unfolding p.any_type
-  good_type = good_or (is_keyword w.Pure) never (good_type_by w.Pure kind.Pure) good_valued refl
+  pub good_kind : Rule v x n p.kind g.kind false begins_type never
+  unfolding p.kind
+  good_kind = good_or (is_keyword w.Pure) never (good_kind_by w.Pure kind.Pure) good_valued refl
 
   good_literal_by : (word : Keyword) (b : Bool) → Rule v x n (p.literal_by word b) (g.literal_by word b) false (is_keyword word) never
   good_literal_by word b = good_made (λ m. value.Bool b) (good_keyword word)
@@ -83,7 +83,7 @@ module _ {v : Level} {x n : ℕ} where
 
   good_kind_of_signal : Rule v x n p.kind_of_signal (l.◌or◌ g.behind_colon (l.pure kind.Pure)) true (λ a. is_punct k.Colon a || never a) (is_punct k.Colon)
   unfolding p.kind_of_signal
-  good_kind_of_signal = good_or (is_punct k.Colon) (is_punct k.Colon) (good_then (good_punct k.Colon refl) (λ m. good_type) refl) (good_pure kind.Pure (is_punct k.Colon)) refl
+  good_kind_of_signal = good_or (is_punct k.Colon) (is_punct k.Colon) (good_then (good_punct k.Colon refl) (λ m. good_kind) refl) (good_pure kind.Pure (is_punct k.Colon)) refl
 
   good_first_value : Rule v x n p.first_value (eg.optional g.behind_equal) true (λ a. is_punct k.Equal a || never a) (is_punct k.Equal)
   unfolding p.first_value
@@ -101,10 +101,10 @@ module _ {v : Level} {x n : ℕ} where
   unfolding p.combining
   good_combining = good_optional (is_keyword w.Combine) (is_keyword w.Combine) (good_then (good_keyword w.Combine) (λ m. good_combine_word) refl) refl
 
-  pub good_sig : Rule v x n p.sig g.sig false is_name behind_signal
-  unfolding p.sig
-  good_sig = good_then good_name (λ m. good_seq good_kind_of_signal (λ y. good_seq good_first_value (λ f. good_seq good_combining
-      (λ c. good_pure (record { pos = at m.0; name = m.1; kind = y; first = f; combine = c }) behind_signal) refl) refl) refl) refl
+  pub good_signal : Rule v x n p.signal g.signal false is_name behind_signal
+  unfolding p.signal
+  good_signal = good_then good_name (λ m. good_seq good_kind_of_signal (λ y. good_seq good_first_value (λ f. good_seq good_combining
+      (λ c. good_pure (record { pos = pos_at m.0; name = m.1; kind = y; first = f; combine = c }) behind_signal) refl) refl) refl) refl
 
   good_dir_by : (word : Keyword) (what : Dir) → Rule v x n (p.dir_by word what) (g.dir_by word what) false (is_keyword word) never
   good_dir_by word what = good_made (λ m. what) (good_keyword word)
@@ -113,10 +113,10 @@ module _ {v : Level} {x n : ℕ} where
   unfolding p.direction
   good_direction = good_or (is_keyword w.In) never (good_dir_by w.In dir.Input) (good_or (is_keyword w.Out) never (good_dir_by w.Out dir.Output) (good_dir_by w.Inout dir.Both) refl) refl
 
-  pub good_decl : Rule v x n p.decl g.decl false begins_declaration behind_signal
-  unfolding p.decl
-  good_decl = good_then good_direction (λ d. good_then good_sig (λ s. good_pure (record { dir = d; sig = s }) behind_signal) refl) refl
+  pub good_interface : Rule v x n p.interface g.interface false begins_declaration behind_signal
+  unfolding p.interface
+  good_interface = good_then good_direction (λ d. good_then good_signal (λ s. good_pure (record { dir = d; signal = s }) behind_signal) refl) refl
 
-  pub good_param : Rule v x n p.param g.param false is_name never
-  unfolding p.param
-  good_param = good_then good_name (λ m. good_then (good_punct k.Colon refl) (λ c. good_then good_valued (λ y. good_pure (record { pos = at m.0; name = m.1; kind = y }) never) refl) refl) refl
+  pub good_parameter : Rule v x n p.parameter g.parameter false is_name never
+  unfolding p.parameter
+  good_parameter = good_then good_name (λ m. good_then (good_punct k.Colon refl) (λ c. good_then good_valued (λ y. good_pure (record { pos = pos_at m.0; name = m.1; kind = y }) never) refl) refl) refl

@@ -4,7 +4,7 @@ use Rattle.std.specs.Prelude.{◌||◌}
 use Rattle.module_token.specs.declared.keyword.Keyword.TheVariants as w
 use Rattle.module_token.specs.declared.punct.Punct.TheVariants as k
 use Rattle.module_tree.specs.declared.source.Delay.TheVariants as delay
-use Rattle.module_tree.specs.declared.source.Plain.TheVariants as plain
+use Rattle.module_tree.specs.declared.source.Later.TheVariants as plain
 use Rattle.grammar.specs.Tokens.{never}
 use Rattle.grammar.specs.Fault.{OutOfRange}
 use Rattle.grammar.proofs.Bundle.{Sample}
@@ -22,7 +22,7 @@ use Rattle.expression_reader.specs.Rules.{is_number}
 use Rattle.module_reader.specs.Reference as p
 use Rattle.expression_reader.proofs.TokenRules.{Out, good_keyword, good_punct, good_number}
 use Rattle.expression_reader.proofs.PartRules.{good_in_round}
-use Rattle.expression_reader.proofs.ExpressionRules.{behind_expression, good_outermost, sample_outermost, good_tested}
+use Rattle.expression_reader.proofs.ExpressionRules.{behind_expression, good_outermost, sample_outermost, good_test}
 
 abbrev pub begins_plain : Terminal → Bool
 begins_plain a = is_punct k.LeftParen a || is_keyword w.Count a
@@ -38,7 +38,7 @@ sample_times room =
 module _ (n x : ℕ) where
   good_once : Out x n (p.once n) (g.once (deeper n x)) false (is_punct k.LeftParen) never
   unfolding p.once
-  good_once = good_made (λ a. plain.Once a) (good_tested n x)
+  good_once = good_made (λ a. plain.Once a) (good_test n x)
 
   good_times : Out x n (p.times n) (g.times (deeper n x)) false is_number behind_expression
   unfolding p.times
@@ -49,18 +49,18 @@ module _ (n x : ℕ) where
   unfolding p.count
   good_count = good_then (good_keyword w.Count) (λ m. good_made (λ c. plain.Count c.0 c.1) (good_in_round n x sample_times (λ left. good_times left x) refl)) refl
 
-  pub good_plain_delay : Out x n (p.plain_delay n) (g.plain_delay (deeper n x)) false begins_plain never
-  unfolding p.plain_delay
-  good_plain_delay = good_or (is_punct k.LeftParen) never (good_once n x) good_count refl
+  pub good_later : Out x n (p.later n) (g.later (deeper n x)) false begins_plain never
+  unfolding p.later
+  good_later = good_or (is_punct k.LeftParen) never (good_once n x) good_count refl
 
-  good_plainly : Out x n (p.plainly n) (g.plainly (deeper n x)) false begins_plain never
-  unfolding p.plainly
-  good_plainly = good_made (λ a. delay.Plain a) good_plain_delay
+  good_later_delay : Out x n (p.later_delay n) (g.later_delay (deeper n x)) false begins_plain never
+  unfolding p.later_delay
+  good_later_delay = good_made (λ a. delay.Later a) good_later
 
   good_immediate : Out x n (p.immediate n) (g.immediate (deeper n x)) false (is_keyword w.Immediate) never
   unfolding p.immediate
-  good_immediate = good_then (good_keyword w.Immediate) (λ m. good_made (λ a. delay.Immediate a) (good_tested n x)) refl
+  good_immediate = good_then (good_keyword w.Immediate) (λ m. good_made (λ a. delay.Immediate a) (good_test n x)) refl
 
-  pub good_any_delay : Out x n (p.any_delay n) (g.any_delay (deeper n x)) false begins_delay never
-  unfolding p.any_delay
-  good_any_delay = good_or (is_keyword w.Immediate) never good_immediate good_plainly refl
+  pub good_delay : Out x n (p.delay n) (g.delay (deeper n x)) false begins_delay never
+  unfolding p.delay
+  good_delay = good_or (is_keyword w.Immediate) never good_immediate good_later_delay refl

@@ -1,7 +1,7 @@
 pub mod DeclarationRules
 pub mod DelayRules
 pub mod StatementRules
-pub mod TopRules
+pub mod ProgramRules
 pub mod Items
 pub mod Texts
 pub mod written

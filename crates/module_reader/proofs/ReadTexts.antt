@@ -2,23 +2,23 @@
 use Rattle.std.proofs.Common.{◌≡◌, ◌≢◌, ℕ, true, false, List, map, length, Some, None, Result, Ok, Err, option_map, refl, sym, ap, subst, ◌∙◌, inl, inr}
 use Rattle.module_token.specs.declared.fault.ReadKind.TheVariants as k
 use Rattle.module_token.specs.Tokens as token
-use Rattle.module_token.specs.Tokens.{Tokens}
-use Rattle.module_tree.specs.declared.source.Top.{Top}
+use Rattle.module_token.specs.Tokens.{HasTokens}
+use Rattle.module_tree.specs.declared.source.Part.{Part}
 use Rattle.module_tree.specs.Source.{is_source}
 use Rattle.grammar.specs.Tokens.{Tok}
 use Rattle.grammar.specs.Fault.{Fault, Refusal, Unexpected, EndOfText, Deep, Large, OutOfRange}
 use Rattle.grammar.specs.Parser.{Exact, start, whole}
 use Rattle.grammar.specs.Texts.{Within, FirstFault, ReadAs}
-use Rattle.expression_reader.specs.declared.fault.Refused.{Refused}
-use Rattle.expression_reader.specs.declared.fault.Refused.TheVariants as r
+use Rattle.expression_reader.specs.declared.fault.StepError.{StepError}
+use Rattle.expression_reader.specs.declared.fault.StepError.TheVariants as r
 use Rattle.expression_reader.specs.declared.terminal.Terminal.{Terminal}
 use Rattle.expression_reader.specs.Terminals.{symbols}
 use Rattle.expression_reader.specs.Trees.{Name}
 use Rattle.module_reader.specs.Trees.{has_module}
-use Rattle.module_reader.specs.Rules.{tops, texts}
+use Rattle.module_reader.specs.Rules.{parts, program}
 use Rattle.expression_reader.specs.Rules.{largest}
 use Rattle.module_reader.specs.Reference as p
-use Rattle.expression_reader.specs.Refusals.{seen}
+use Rattle.expression_reader.specs.Refusals.{as_refusal}
 use Rattle.module_reader.specs.Refusals.{as_fault}
 use Rattle.module_reader.specs.Reading.{to_grammar, fault_of, HasTree, IsGrammarFault, IsFirstFault}
 use Rattle.module_reader.proofs.Texts.{is_found, is_read_tops, is_first, is_first_tops, is_text}
@@ -27,20 +27,20 @@ use Rattle.module_reader.proofs.written.Texts.{written}
 
 module _ (size : ℕ) (ts : List (Tok Terminal)) where
   -- what was read of the tokens
-  pub tops_found : (tree : List (Top Name)) → Exact seen (whole (p.tops 128) (start ts size)) (Ok tree) → Within symbols tops tree ts
-  tops_found tree x = is_found seen size ts (Ok tree) x.0 x.1
+  pub tops_found : (tree : List (Part Name)) → Exact as_refusal (whole (p.parts 128) (start ts size)) (Ok tree) → Within symbols parts tree ts
+  tops_found tree x = is_found as_refusal size ts (Ok tree) x.0 x.1
 
   -- a tree that the tokens have is read
-  pub tops_read : (result : Result (List (Top Name)) Refused) → Exact seen (whole (p.tops 128) (start ts size)) result → (tree : List (Top Name)) → Within symbols tops tree ts → ReadAs seen tree result
-  tops_read result x tree y = is_read_tops seen size ts result x.0 x.1 tree y
+  pub tops_read : (result : Result (List (Part Name)) StepError) → Exact as_refusal (whole (p.parts 128) (start ts size)) result → (tree : List (Part Name)) → Within symbols parts tree ts → ReadAs as_refusal tree result
+  tops_read result x tree y = is_read_tops as_refusal size ts result x.0 x.1 tree y
 
-  first_of : (e : Refused) → Exact seen (whole (p.tops 128) (start ts size)) (Err e) → (f : Refusal) → seen e ≡ Some f → FirstFault symbols texts size ts f
-  first_of e x = is_first seen size ts (Err e) x.0 x.1
+  first_of : (e : StepError) → Exact as_refusal (whole (p.parts 128) (start ts size)) (Err e) → (f : Refusal) → as_refusal e ≡ Some f → FirstFault symbols program size ts f
+  first_of e x = is_first as_refusal size ts (Err e) x.0 x.1
 
-  inside_of : (e : Refused) → Exact seen (whole (p.tops 128) (start ts size)) (Err e) → (f : Refusal) → seen e ≡ Some f → FirstFault symbols tops size ts f
-  inside_of e x = is_first_tops seen size ts (Err e) x.0 x.1
+  inside_of : (e : StepError) → Exact as_refusal (whole (p.parts 128) (start ts size)) (Err e) → (f : Refusal) → as_refusal e ≡ Some f → FirstFault symbols parts size ts f
+  inside_of e x = is_first_tops as_refusal size ts (Err e) x.0 x.1
 
-  refused_as : (e : Refused) → Exact seen (whole (p.tops 128) (start ts size)) (Err e) → (f : Refusal) → seen e ≡ Some f → fault_of (as_fault e).kind ≡ Some f.fault → (as_fault e).pos.0 ≡ f.place → IsGrammarFault size ts (as_fault e)
+  refused_as : (e : StepError) → Exact as_refusal (whole (p.parts 128) (start ts size)) (Err e) → (f : Refusal) → as_refusal e ≡ Some f → fault_of (as_fault e).kind ≡ Some f.fault → (as_fault e).pos.0 ≡ f.place → IsGrammarFault size ts (as_fault e)
   refused_as e x f h kind place = record {
     fault = f.fault;
     of_kind = kind;
@@ -49,7 +49,7 @@ module _ (size : ℕ) (ts : List (Tok Terminal)) where
   }
 
   -- where the grammar refuses the tokens
-  pub fault_found : (e : Refused) → Exact seen (whole (p.tops 128) (start ts size)) (Err e) → (as_fault e).kind ≢ k.NoMemory → IsGrammarFault size ts (as_fault e)
+  pub fault_found : (e : StepError) → Exact as_refusal (whole (p.parts 128) (start ts size)) (Err e) → (as_fault e).kind ≢ k.NoMemory → IsGrammarFault size ts (as_fault e)
   fault_found (r.Unexpected n) x ne = refused_as (r.Unexpected n) x (record { place = n; fault = Unexpected }) refl refl refl
   fault_found (r.EndOfText n) x ne = refused_as (r.EndOfText n) x (record { place = n; fault = EndOfText }) refl refl refl
   fault_found (r.DeepNesting n) x ne = refused_as (r.DeepNesting n) x (record { place = n; fault = Deep }) refl refl refl
@@ -58,7 +58,7 @@ module _ (size : ℕ) (ts : List (Tok Terminal)) where
   fault_found (r.BadCount n) x ne = refused_as (r.BadCount n) x (record { place = n; fault = OutOfRange 1 64 }) refl refl refl
   fault_found r.NoMemory x ne = absurd (ne refl)
 
-no_memory : (e : Refused) → seen e ≡ None → (as_fault e).kind ≡ k.NoMemory
+no_memory : (e : StepError) → as_refusal e ≡ None → (as_fault e).kind ≡ k.NoMemory
 no_memory (r.Unexpected n) h = absurd (let no : ⊥ = cc in no)
 no_memory (r.EndOfText n) h = absurd (let no : ⊥ = cc in no)
 no_memory (r.DeepNesting n) h = absurd (let no : ⊥ = cc in no)
@@ -68,7 +68,7 @@ no_memory (r.BadCount n) h = absurd (let no : ⊥ = cc in no)
 no_memory r.NoMemory h = refl
 
 -- a refusal is that of its kind
-seen_as : (e : Refused) → seen e ≡ option_map (λ f. record { place = (as_fault e).pos.0; fault = f }) (fault_of (as_fault e).kind)
+seen_as : (e : StepError) → as_refusal e ≡ option_map (λ f. record { place = (as_fault e).pos.0; fault = f }) (fault_of (as_fault e).kind)
 seen_as (r.Unexpected n) = refl
 seen_as (r.EndOfText n) = refl
 seen_as (r.DeepNesting n) = refl
@@ -77,49 +77,49 @@ seen_as (r.NumberLarge n) = refl
 seen_as (r.BadCount n) = refl
 seen_as r.NoMemory = refl
 
-module _ (text : List ℕ) (tokens : List token.Tok) (found : Tokens text tokens) (ts : List (Tok Terminal)) (same : map to_grammar tokens ≡ ts) where
-  spells_tree : (tree : List (Top Name)) → has_module tree ≡ true → Exact seen (whole (p.tops 128) (start ts (length text))) (Ok tree) → Within symbols texts tree (map to_grammar tokens)
-  spells_tree tree m x = subst (Within symbols texts tree) (sym same) (is_text ts tree m (tops_found (length text) ts tree x))
+module _ (text : List ℕ) (tokens : List token.TextToken) (found : HasTokens text tokens) (ts : List (Tok Terminal)) (same : map to_grammar tokens ≡ ts) where
+  spells_tree : (tree : List (Part Name)) → has_module tree ≡ true → Exact as_refusal (whole (p.parts 128) (start ts (length text))) (Ok tree) → Within symbols program tree (map to_grammar tokens)
+  spells_tree tree m x = subst (Within symbols program tree) (sym same) (is_text ts tree m (tops_found (length text) ts tree x))
 
   -- the tree that was read is the text's
-  pub has_tree : (tree : List (Top Name)) → has_module tree ≡ true → Exact seen (whole (p.tops 128) (start ts (length text))) (Ok tree) → HasTree text tree
+  pub has_tree : (tree : List (Part Name)) → has_module tree ≡ true → Exact as_refusal (whole (p.parts 128) (start ts (length text))) (Ok tree) → HasTree text tree
   has_tree tree m x = record { tokens = tokens; has_tokens = found; spells = spells_tree tree m x }
 
-  pub is_source_tree : (tree : List (Top Name)) → has_module tree ≡ true → Exact seen (whole (p.tops 128) (start ts (length text))) (Ok tree) → is_source tree ≡ true
+  pub is_source_tree : (tree : List (Part Name)) → has_module tree ≡ true → Exact as_refusal (whole (p.parts 128) (start ts (length text))) (Ok tree) → is_source tree ≡ true
   is_source_tree tree m x = written tree (map to_grammar tokens) (all_lawful found) (spells_tree tree m x)
 
   -- a fault of the grammar is the text's
-  pub of_grammar : (e : Refused) → Exact seen (whole (p.tops 128) (start ts (length text))) (Err e) → (as_fault e).kind ≢ k.NoMemory → IsFirstFault text (as_fault e)
+  pub of_grammar : (e : StepError) → Exact as_refusal (whole (p.parts 128) (start ts (length text))) (Err e) → (as_fault e).kind ≢ k.NoMemory → IsFirstFault text (as_fault e)
   of_grammar e x ne = inr (record { tokens = tokens; has_tokens = found; fault = inl (subst (λ zs. IsGrammarFault (length text) zs (as_fault e)) (sym same) (fault_found (length text) ts e x ne)) })
 
-  pub by_rule : (e : Refused) → Exact seen (whole (p.tops 128) (start ts (length text))) (Err e) → (f : Fault) → fault_of (as_fault e).kind ≡ Some f → whole (p.tops 128) (start (map to_grammar tokens) (length text)) ≡ Err (record { place = (as_fault e).pos.0; fault = f })
+  pub by_rule : (e : StepError) → Exact as_refusal (whole (p.parts 128) (start ts (length text))) (Err e) → (f : Fault) → fault_of (as_fault e).kind ≡ Some f → whole (p.parts 128) (start (map to_grammar tokens) (length text)) ≡ Err (record { place = (as_fault e).pos.0; fault = f })
   by_rule e x f h =
-      subst (λ zs. whole (p.tops 128) (start zs (length text)) ≡ Err (record { place = (as_fault e).pos.0; fault = f })) (sym same)
+      subst (λ zs. whole (p.parts 128) (start zs (length text)) ≡ Err (record { place = (as_fault e).pos.0; fault = f })) (sym same)
       (x.1 (record { place = (as_fault e).pos.0; fault = f }) (seen_as e ∙ ap (option_map (λ g. record { place = (as_fault e).pos.0; fault = g })) h))
 
   -- so is that there is no module
-  pub of_no_module : (tree : List (Top Name)) → has_module tree ≡ false → Exact seen (whole (p.tops 128) (start ts (length text))) (Ok tree) → IsFirstFault text (record { pos = record { 0 = 0 }; kind = k.NoModule })
+  pub of_no_module : (tree : List (Part Name)) → has_module tree ≡ false → Exact as_refusal (whole (p.parts 128) (start ts (length text))) (Ok tree) → IsFirstFault text (record { pos = record { 0 = 0 }; kind = k.NoModule })
   of_no_module tree m x = inr (record {
     tokens = tokens;
     has_tokens = found;
-    fault = inr (record { kind = refl; place = refl; tree = tree; spells = subst (Within symbols tops tree) (sym same) (tops_found (length text) ts tree x); none = m });
+    fault = inr (record { kind = refl; place = refl; tree = tree; spells = subst (Within symbols parts tree) (sym same) (tops_found (length text) ts tree x); none = m });
   })
 
   -- a tree that the text has by these tokens
-  tops_of : (tree : List (Top Name)) → Within symbols texts tree (map to_grammar tokens) → Within symbols tops tree ts
-  tops_of tree y = subst (Within symbols tops tree) same (y.0, y.1.0, y.2)
+  tops_of : (tree : List (Part Name)) → Within symbols program tree (map to_grammar tokens) → Within symbols parts tree ts
+  tops_of tree y = subst (Within symbols parts tree) same (y.0, y.1.0, y.2)
 
-  module_of : (tree : List (Top Name)) → Within symbols texts tree (map to_grammar tokens) → has_module tree ≡ true
+  module_of : (tree : List (Part Name)) → Within symbols program tree (map to_grammar tokens) → has_module tree ≡ true
   module_of tree y = y.1.1
 
   -- it is the one that was read
-  pub only_tree : (read : List (Top Name)) → Exact seen (whole (p.tops 128) (start ts (length text))) (Ok read) → (tree : List (Top Name)) → Within symbols texts tree (map to_grammar tokens) → read ≡ tree
+  pub only_tree : (read : List (Part Name)) → Exact as_refusal (whole (p.parts 128) (start ts (length text))) (Ok read) → (tree : List (Part Name)) → Within symbols program tree (map to_grammar tokens) → read ≡ tree
   only_tree read x tree y = tops_read (length text) ts (Ok read) x tree (tops_of tree y)
 
-  pub only_memory : (e : Refused) → Exact seen (whole (p.tops 128) (start ts (length text))) (Err e) → (tree : List (Top Name)) → Within symbols texts tree (map to_grammar tokens) → (as_fault e).kind ≡ k.NoMemory
+  pub only_memory : (e : StepError) → Exact as_refusal (whole (p.parts 128) (start ts (length text))) (Err e) → (tree : List (Part Name)) → Within symbols program tree (map to_grammar tokens) → (as_fault e).kind ≡ k.NoMemory
   only_memory e x tree y = no_memory e (tops_read (length text) ts (Err e) x tree (tops_of tree y))
 
-  pub only_module : {X : Type 0} (read : List (Top Name)) → has_module read ≡ false → Exact seen (whole (p.tops 128) (start ts (length text))) (Ok read) → (tree : List (Top Name)) → Within symbols texts tree (map to_grammar tokens) → X
+  pub only_module : {X : Type 0} (read : List (Part Name)) → has_module read ≡ false → Exact as_refusal (whole (p.parts 128) (start ts (length text))) (Ok read) → (tree : List (Part Name)) → Within symbols program tree (map to_grammar tokens) → X
   only_module read m x tree y =
       let found : has_module read ≡ true = subst (λ a. has_module a ≡ true) (sym (only_tree read x tree y)) (module_of tree y) in
       absurd (let no : ⊥ = cc in no)

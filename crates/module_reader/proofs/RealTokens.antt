@@ -8,7 +8,7 @@ use Rattle.module_token.specs.declared.token.TokenKind.{TokenKind}
 use Rattle.module_token.specs.declared.token.TokenKind.TheVariants as kind
 use Rattle.module_token.specs.Token.{IsToken}
 use Rattle.module_token.specs.Tokens as token
-use Rattle.module_token.specs.Tokens.{Reads, ended, refused, passed, taken}
+use Rattle.module_token.specs.Tokens.{Tokenizes, ended, refused, passed, taken}
 use Rattle.module_token.specs.Place as place
 use Rattle.module_token.proofs.Unquoted.{value_of_quoted}
 use Rattle.expression_reader.specs.Terminals.{word}
@@ -28,7 +28,7 @@ is_lawful at text (kind.Number n) rest h = record { name = λ e. not_both false 
 is_lawful at text kind.Quoted rest h = record { name = λ e. not_both false refl e; utf8 = λ e. not_both false refl e; no_keyword = λ e. not_both false refl e; quoted = λ e. subst IsText (sym (value_of_quoted h.0 text h.1 h.2)) h.1 }
 is_lawful at text (kind.Punct k) rest h = record { name = λ e. not_both false refl e; utf8 = λ e. not_both false refl e; no_keyword = λ e. not_both false refl e; quoted = λ e. not_both false refl e }
 
-pub all_lawful : {at : ℕ} {text : List ℕ} {tokens : List token.Tok} {end : Option TokenFault} → Reads at text tokens end → Lawful (map to_grammar tokens)
+pub all_lawful : {at : ℕ} {text : List ℕ} {tokens : List token.TextToken} {end : Option TokenFault} → Tokenizes at text tokens end → Lawful (map to_grammar tokens)
 all_lawful ended = tt
 all_lawful (refused n kind h) = tt
 all_lawful (passed gap rest g more) = all_lawful more

@@ -10,7 +10,7 @@ use Rattle.module_tree.specs.declared.source.Statement.{Statement}
 use Rattle.module_tree.specs.declared.source.Statement.TheVariants as s
 use Rattle.grammar.specs.Tokens.{never}
 use Rattle.grammar.specs.Language as l
-use Rattle.grammar.specs.Parser.{Input, kind, either, sees, too_deep, opened}
+use Rattle.grammar.specs.Parser.{Unread, kind, if_next, sees, too_deep, opened}
 use Rattle.grammar.proofs.Bundle.{Level, Sample}
 use Rattle.grammar.proofs.Levels.{outer_level}
 use Rattle.grammar.proofs.Sequences.{good_seq, good_then, good_pure, sample_seq, sample_none, sample_pure, sample_token, sample_right}
@@ -31,9 +31,9 @@ use Rattle.module_reader.specs.Reference as p
 use Rattle.expression_reader.specs.Reference.{Parser}
 use Rattle.expression_reader.proofs.TokenRules.{Rule, Out, good_keyword, good_punct, good_name, good_named, good_quoted}
 use Rattle.expression_reader.proofs.PartRules.{good_optional, good_listed, good_listed_or_none, good_in_round}
-use Rattle.expression_reader.proofs.ExpressionRules.{good_outermost, good_tested}
-use Rattle.module_reader.proofs.DeclarationRules.{behind_signal, good_sig}
-use Rattle.module_reader.proofs.DelayRules.{good_plain_delay, good_any_delay}
+use Rattle.expression_reader.proofs.ExpressionRules.{good_outermost, good_test}
+use Rattle.module_reader.proofs.DeclarationRules.{behind_signal, good_signal}
+use Rattle.module_reader.proofs.DelayRules.{good_later, good_delay}
 
 -- ---- parts of statements
 
@@ -62,9 +62,9 @@ sample_named : Sample eg.named
 sample_named = (good_named {v = outer_level symbols} {x = 1} {n = 0}).sample (omega arith)
 
 module _ (n x : ℕ) where
-  good_emitted : Out x n (p.emitted n) (eg.optional (eg.tested (deeper n x))) true (λ a. is_punct k.LeftParen a || never a) (is_punct k.LeftParen)
+  good_emitted : Out x n (p.emitted n) (eg.optional (eg.test (deeper n x))) true (λ a. is_punct k.LeftParen a || never a) (is_punct k.LeftParen)
   unfolding p.emitted
-  good_emitted = good_optional (is_punct k.LeftParen) (is_punct k.LeftParen) (good_tested n x) refl
+  good_emitted = good_optional (is_punct k.LeftParen) (is_punct k.LeftParen) (good_test n x) refl
 
   good_emission : Out x n (p.emission n) (g.emission (deeper n x)) false is_name never
   unfolding p.emission
@@ -80,7 +80,7 @@ module _ (n x : ℕ) where
 
   good_await : Out x n (p.await_delay n) (g.await (deeper n x)) false (is_keyword w.Await) never
   unfolding p.await_delay
-  good_await = good_then (good_keyword w.Await) (λ m. good_then (good_any_delay n x) (λ d. good_then (good_punct k.Semicolon refl) (λ c. good_pure (statement_at m (s.Await d)) never) refl) refl) refl
+  good_await = good_then (good_keyword w.Await) (λ m. good_then (good_delay n x) (λ d. good_then (good_punct k.Semicolon refl) (λ c. good_pure (statement_at m (s.Await d)) never) refl) refl) refl
 
   good_run : Out x n (p.run n) (g.run (deeper n x)) false (is_keyword w.Run) never
   unfolding p.run
@@ -118,13 +118,13 @@ module _ {x n : ℕ} {bp : Parser (BlockNode Name)} {bl : Lang (BlockNode Name)}
   unfolding p.behind_par
   good_behind_par = good_then (good_keyword w.Par) (λ m. h) refl
 
-  good_branches_of : Out x n (p.branches_of bp) (g.branches_of bl) false (is_punct k.LeftBrace) (is_keyword w.Par)
-  unfolding p.branches_of
-  good_branches_of = good_several (λ b bs. b ∷ bs) (is_keyword w.Par) (is_keyword w.Par) h good_behind_par refl refl
+  good_par_blocks : Out x n (p.par_blocks bp) (g.par_blocks bl) false (is_punct k.LeftBrace) (is_keyword w.Par)
+  unfolding p.par_blocks
+  good_par_blocks = good_several (λ b bs. b ∷ bs) (is_keyword w.Par) (is_keyword w.Par) h good_behind_par refl refl
 
   good_fork : Out x n (p.fork bp) (g.fork bl) false (is_keyword w.Fork) (is_keyword w.Par)
   unfolding p.fork
-  good_fork = good_then (good_keyword w.Fork) (λ m. good_made (λ bs. statement_at m (s.Fork bs)) good_branches_of) refl
+  good_fork = good_then (good_keyword w.Fork) (λ m. good_made (λ bs. statement_at m (s.Fork bs)) good_par_blocks) refl
 
   good_nested_block : Out x n (p.nested_block bp) (g.nested_block bl) false (is_punct k.LeftBrace) never
   unfolding p.nested_block
@@ -132,7 +132,7 @@ module _ {x n : ℕ} {bp : Parser (BlockNode Name)} {bl : Lang (BlockNode Name)}
 
   good_local : Out x n (p.local bp) (g.local bl) false (is_keyword w.Signal) never
   unfolding p.local
-  good_local = good_then (good_keyword w.Signal) (λ m. good_then (good_listed (λ a. is_punct k.Comma a || behind_signal a) good_sig refl refl) (λ ss. good_made (λ b. statement_at m (s.Signal ss b)) h) refl) refl
+  good_local = good_then (good_keyword w.Signal) (λ m. good_then (good_listed (λ a. is_punct k.Comma a || behind_signal a) good_signal refl refl) (λ ss. good_made (λ b. statement_at m (s.Signal ss b)) h) refl) refl
 
   good_trap : Out x n (p.trap bp) (g.trap bl) false (is_keyword w.Trap) never
   unfolding p.trap
@@ -143,56 +143,56 @@ module _ {x n : ℕ} {bp : Parser (BlockNode Name)} {bl : Lang (BlockNode Name)}
   good_otherwise = good_optional (is_keyword w.Else) (is_keyword w.Else) (good_then (good_keyword w.Else) (λ m. h) refl) refl
 
 module _ (n x : ℕ) {bp : Parser (BlockNode Name)} {bl : Lang (BlockNode Name)} (h : Blocks x n bp bl) where
-  good_choice : Out x n (p.choice bp n) (g.choice bl (deeper n x)) false (is_keyword w.If) (is_keyword w.Else)
-  unfolding p.choice
-  good_choice = good_then (good_keyword w.If) (λ m. good_then (good_tested n x) (λ a. good_then h (λ b. good_seq (good_otherwise h) (λ c. good_pure (statement_at m (s.If a b c)) (is_keyword w.Else)) refl) refl) refl) refl
+  good_if_else : Out x n (p.if_else bp n) (g.if_else bl (deeper n x)) false (is_keyword w.If) (is_keyword w.Else)
+  unfolding p.if_else
+  good_if_else = good_then (good_keyword w.If) (λ m. good_then (good_test n x) (λ a. good_then h (λ b. good_seq (good_otherwise h) (λ c. good_pure (statement_at m (s.If a b c)) (is_keyword w.Else)) refl) refl) refl) refl
 
   good_every : Out x n (p.every bp n) (g.every bl (deeper n x)) false (is_keyword w.Every) never
   unfolding p.every
-  good_every = good_then (good_keyword w.Every) (λ m. good_then (good_any_delay n x) (λ d. good_made (λ b. statement_at m (s.Every d b)) h) refl) refl
+  good_every = good_then (good_keyword w.Every) (λ m. good_then (good_delay n x) (λ d. good_made (λ b. statement_at m (s.Every d b)) h) refl) refl
 
   good_do_every : Out x n (p.do_every bp n) (g.do_every bl (deeper n x)) false (is_keyword w.Do) never
   unfolding p.do_every
-  good_do_every = good_then (good_keyword w.Do) (λ m. good_then h (λ b. good_then (good_keyword w.Every) (λ e. good_then (good_plain_delay n x) (λ d. good_then (good_punct k.Semicolon refl)
+  good_do_every = good_then (good_keyword w.Do) (λ m. good_then h (λ b. good_then (good_keyword w.Every) (λ e. good_then (good_later n x) (λ d. good_then (good_punct k.Semicolon refl)
       (λ c. good_pure (statement_at m (s.DoEvery b d)) never) refl) refl) refl) refl) refl
 
   good_abort : Out x n (p.abort bp n) (g.abort bl (deeper n x)) false (is_keyword w.Abort) never
   unfolding p.abort
-  good_abort = good_then (good_keyword w.Abort) (λ m. good_then (good_any_delay n x) (λ d. good_made (λ b. statement_at m (s.Abort d b)) h) refl) refl
+  good_abort = good_then (good_keyword w.Abort) (λ m. good_then (good_delay n x) (λ d. good_made (λ b. statement_at m (s.Abort d b)) h) refl) refl
 
   good_weak_abort : Out x n (p.weak_abort bp n) (g.weak_abort bl (deeper n x)) false (is_keyword w.WeakAbort) never
   unfolding p.weak_abort
-  good_weak_abort = good_then (good_keyword w.WeakAbort) (λ m. good_then (good_any_delay n x) (λ d. good_made (λ b. statement_at m (s.WeakAbort d b)) h) refl) refl
+  good_weak_abort = good_then (good_keyword w.WeakAbort) (λ m. good_then (good_delay n x) (λ d. good_made (λ b. statement_at m (s.WeakAbort d b)) h) refl) refl
 
   good_suspend : Out x n (p.suspend bp n) (g.suspend bl (deeper n x)) false (is_keyword w.Suspend) never
   unfolding p.suspend
-  good_suspend = good_then (good_keyword w.Suspend) (λ m. good_seq good_has_immediate (λ i. good_then (good_tested n x) (λ a. good_made (λ b. statement_at m (s.Suspend i a b)) h) refl) refl) refl
+  good_suspend = good_then (good_keyword w.Suspend) (λ m. good_seq good_has_immediate (λ i. good_then (good_test n x) (λ a. good_made (λ b. statement_at m (s.Suspend i a b)) h) refl) refl) refl
 
 -- the choice of a statement by its first word, one after the other
 abbrev by_word : Parser (BlockNode Name) → ℕ → Parser (StatementNode Name)
 by_word block room =
-    either (is_keyword w.Nothing) (p.simple w.Nothing s.Nothing) (
-    either (is_keyword w.Pause) (p.simple w.Pause s.Pause) (
-    either (is_keyword w.Halt) (p.simple w.Halt s.Halt) (
-    either (is_keyword w.Emit) (p.emit room) (
-    either (is_keyword w.Sustain) (p.sustain room) (
-    either (is_keyword w.If) (p.choice block room) (
-    either (is_keyword w.Loop) (p.loop_block block) (
-    either (is_keyword w.Fork) (p.fork block) (
-    either (is_keyword w.Await) (p.await_delay room) (
-    either (is_keyword w.Every) (p.every block room) (
-    either (is_keyword w.Do) (p.do_every block room) (
-    either (is_keyword w.Abort) (p.abort block room) (
-    either (is_keyword w.WeakAbort) (p.weak_abort block room) (
-    either (is_keyword w.Suspend) (p.suspend block room) (
-    either (is_keyword w.Signal) (p.local block) (
-    either (is_keyword w.Trap) (p.trap block) (
-    either (is_keyword w.Break) p.break_out (
-    either (is_keyword w.Run) (p.run room) (
-    either (is_keyword w.Async) (p.async_call room) (
+    if_next (is_keyword w.Nothing) (p.simple w.Nothing s.Nothing) (
+    if_next (is_keyword w.Pause) (p.simple w.Pause s.Pause) (
+    if_next (is_keyword w.Halt) (p.simple w.Halt s.Halt) (
+    if_next (is_keyword w.Emit) (p.emit room) (
+    if_next (is_keyword w.Sustain) (p.sustain room) (
+    if_next (is_keyword w.If) (p.if_else block room) (
+    if_next (is_keyword w.Loop) (p.loop_block block) (
+    if_next (is_keyword w.Fork) (p.fork block) (
+    if_next (is_keyword w.Await) (p.await_delay room) (
+    if_next (is_keyword w.Every) (p.every block room) (
+    if_next (is_keyword w.Do) (p.do_every block room) (
+    if_next (is_keyword w.Abort) (p.abort block room) (
+    if_next (is_keyword w.WeakAbort) (p.weak_abort block room) (
+    if_next (is_keyword w.Suspend) (p.suspend block room) (
+    if_next (is_keyword w.Signal) (p.local block) (
+    if_next (is_keyword w.Trap) (p.trap block) (
+    if_next (is_keyword w.Break) p.break_out (
+    if_next (is_keyword w.Run) (p.run room) (
+    if_next (is_keyword w.Async) (p.async_call room) (
     p.nested_block block)))))))))))))))))))
 
-statement_as : (block : Parser (BlockNode Name)) (room : ℕ) (i : Input Terminal) (a : Option Terminal) → kind i ≡ a → p.statement block room i ≡ by_word block room i
+statement_as : (block : Parser (BlockNode Name)) (room : ℕ) (i : Unread Terminal) (a : Option Terminal) → kind i ≡ a → p.statement block room i ≡ by_word block room i
 unfolding p.statement sees
 statement_as block room i (Some (t.Keyword w.Nothing)) e = rw e refl
 statement_as block room i (Some (t.Keyword w.Pause)) e = rw e refl
@@ -232,7 +232,7 @@ good_statement n x {bp} {bl} h = good_by (by_word bp n) (p.statement bp n) (g.st
     (good_or (is_keyword w.Halt) behind_statement (good_simple w.Halt s.Halt)
     (good_or (is_keyword w.Emit) behind_statement (good_emit n x)
     (good_or (is_keyword w.Sustain) behind_statement (good_sustain n x)
-    (good_or (is_keyword w.If) behind_statement (good_choice n x h)
+    (good_or (is_keyword w.If) behind_statement (good_if_else n x h)
     (good_or (is_keyword w.Loop) behind_statement (good_loop h)
     (good_or (is_keyword w.Fork) behind_statement (good_fork h)
     (good_or (is_keyword w.Await) behind_statement (good_await n x)

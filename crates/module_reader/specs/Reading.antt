@@ -3,8 +3,8 @@ use Rattle.std.specs.Prelude.{◌≡◌, ◌⊎◌, ℕ, false, List, map, lengt
 use Rattle.module_token.specs.declared.fault.ReadKind.{ReadKind}
 use Rattle.module_token.specs.declared.fault.ReadKind.TheVariants as k
 use Rattle.module_token.specs.Tokens as token
-use Rattle.module_token.specs.Tokens.{Tokens, FirstTokenFault}
-use Rattle.module_tree.specs.declared.source.Top.{Top}
+use Rattle.module_token.specs.Tokens.{HasTokens, FirstTokenFault}
+use Rattle.module_tree.specs.declared.source.Part.{Part}
 use Rattle.grammar.specs.Tokens.{Tok}
 use Rattle.grammar.specs.Fault.{Fault, Unexpected, EndOfText, Deep, Large, OutOfRange}
 use Rattle.grammar.specs.Parser.{start, whole}
@@ -13,21 +13,21 @@ use Rattle.module_reader.specs.declared.fault.ReadFault.{ReadFault}
 use Rattle.expression_reader.specs.declared.terminal.Terminal.{Terminal}
 use Rattle.expression_reader.specs.Cursor.{spelled, value_of}
 use Rattle.expression_reader.specs.Terminals.{symbols, terminal}
-use Rattle.expression_reader.specs.Trees.{Name, at}
+use Rattle.expression_reader.specs.Trees.{Name, pos_at}
 use Rattle.module_reader.specs.Trees.{has_module}
-use Rattle.module_reader.specs.Rules.{tops, texts}
+use Rattle.module_reader.specs.Rules.{parts, program}
 use Rattle.expression_reader.specs.Rules.{largest}
 use Rattle.module_reader.specs.Reference as rule
 
 -- what a token of a text is to the grammar
-abbrev pub to_grammar : token.Tok → Tok Terminal
+abbrev pub to_grammar : token.TextToken → Tok Terminal
 to_grammar t = record { place = t.pos; kind = terminal t.what t.text; text = spelled t.what t.text; value = value_of t.what }
 
 -- the text has tokens that spell the tree, within the limits
-pub record HasTree (text : List ℕ) (tree : List (Top Name)) : Type 0 where
-  pub tokens : List token.Tok
-  pub has_tokens : Tokens text tokens
-  pub spells : Within symbols texts tree (map to_grammar tokens)
+pub record HasTree (text : List ℕ) (tree : List (Part Name)) : Type 0 where
+  pub tokens : List token.TextToken
+  pub has_tokens : HasTokens text tokens
+  pub spells : Within symbols program tree (map to_grammar tokens)
 
 -- ---- faults
 
@@ -46,21 +46,21 @@ fault_of _ = None
 pub record IsGrammarFault (size : ℕ) (ts : List (Tok Terminal)) (e : ReadFault) : Type 0 where
   pub fault : Fault
   pub of_kind : fault_of e.kind ≡ Some fault
-  pub first : FirstFault symbols texts size ts (record { place = e.pos.0; fault = fault })
-  pub inside : FirstFault symbols tops size ts (record { place = e.pos.0; fault = fault })
+  pub first : FirstFault symbols program size ts (record { place = e.pos.0; fault = fault })
+  pub inside : FirstFault symbols parts size ts (record { place = e.pos.0; fault = fault })
 
 -- the whole text is read, and has no module: the place is 0
 pub record HasNoModule (ts : List (Tok Terminal)) (e : ReadFault) : Type 0 where
   pub kind : e.kind ≡ k.NoModule
-  pub place : e.pos ≡ at 0
-  pub tree : List (Top Name)
-  pub spells : Within symbols tops tree ts
+  pub place : e.pos ≡ pos_at 0
+  pub tree : List (Part Name)
+  pub spells : Within symbols parts tree ts
   pub none : has_module tree ≡ false
 
 -- there are tokens, and the fault is the grammar's
 pub record IsFaultOfTokens (text : List ℕ) (e : ReadFault) : Type 0 where
-  pub tokens : List token.Tok
-  pub has_tokens : Tokens text tokens
+  pub tokens : List token.TextToken
+  pub has_tokens : HasTokens text tokens
   pub fault : IsGrammarFault (length text) (map to_grammar tokens) e ⊎ HasNoModule (map to_grammar tokens) e
 
 -- the first fault of a text: that of its tokens, or else that of the grammar
@@ -71,5 +71,5 @@ IsFirstFault text e = FirstTokenFault text (record { pos = e.pos; kind = e.kind 
 -- or Unexpected: a number in an expression and that of `count` have faults of their own, and a first value has none.
 abbrev pub IsByRule : List ℕ → ReadFault → Type 0
 IsByRule text e =
-    (tokens : List token.Tok) (f : Fault) → Tokens text tokens → fault_of e.kind ≡ Some f
-    → whole (rule.tops 128) (start (map to_grammar tokens) (length text)) ≡ Err (record { place = e.pos.0; fault = f })
+    (tokens : List token.TextToken) (f : Fault) → HasTokens text tokens → fault_of e.kind ≡ Some f
+    → whole (rule.parts 128) (start (map to_grammar tokens) (length text)) ≡ Err (record { place = e.pos.0; fault = f })

@@ -1,7 +1,7 @@
 -- The reader of each rule of the grammar: it chooses by the next token, within the limits. This project's own.
 use Rattle.std.specs.Prelude.{ℕ, zero, suc, ◌^◌, ◌||◌, pos, neg_ℤ, Bool, true, false, List, ◌∷◌, Option, Some}
 use Rattle.hh_base.specs.declared.value.Kind.{Kind}
-use Rattle.hh_base.specs.declared.value.Kind.TheVariants as kind
+use Rattle.hh_base.specs.declared.value.Kind.TheVariants as kinds
 use Rattle.hh_base.specs.declared.value.Value.{Value}
 use Rattle.hh_base.specs.declared.value.Value.TheVariants as value
 use Rattle.hh_base.specs.declared.value.CombineWord.{CombineWord}
@@ -13,44 +13,44 @@ use Rattle.hh_base.specs.declared.value.Dir.{Dir}
 use Rattle.hh_base.specs.declared.value.Dir.TheVariants as dir
 use Rattle.module_tree.specs.declared.source.NameAt.{NameAt}
 use Rattle.module_tree.specs.declared.source.ExprAt.{ExprAt}
-use Rattle.module_tree.specs.declared.source.ParamNode.{ParamNode}
-use Rattle.module_tree.specs.declared.source.SigNode.{SigNode}
-use Rattle.module_tree.specs.declared.source.DeclNode.{DeclNode}
+use Rattle.module_tree.specs.declared.source.ParameterNode.{ParameterNode}
+use Rattle.module_tree.specs.declared.source.SignalNode.{SignalNode}
+use Rattle.module_tree.specs.declared.source.InterfaceNode.{InterfaceNode}
 use Rattle.module_tree.specs.declared.source.BlockNode.{BlockNode}
 use Rattle.module_tree.specs.declared.source.StatementNode.{StatementNode}
 use Rattle.module_tree.specs.declared.source.Statement.{Statement}
 use Rattle.module_tree.specs.declared.source.Statement.TheVariants as s
 use Rattle.module_tree.specs.declared.source.Delay.{Delay}
-use Rattle.module_tree.specs.declared.source.Delay.TheVariants as delay
-use Rattle.module_tree.specs.declared.source.Plain.{Plain}
-use Rattle.module_tree.specs.declared.source.Plain.TheVariants as plain
+use Rattle.module_tree.specs.declared.source.Delay.TheVariants as delays
+use Rattle.module_tree.specs.declared.source.Later.{Later}
+use Rattle.module_tree.specs.declared.source.Later.TheVariants as laters
 use Rattle.module_tree.specs.declared.source.Binding.{Binding}
-use Rattle.module_tree.specs.declared.source.Top.{Top}
-use Rattle.module_tree.specs.declared.source.Top.TheVariants as top
+use Rattle.module_tree.specs.declared.source.Part.{Part}
+use Rattle.module_tree.specs.declared.source.Part.TheVariants as part_of
 use Rattle.grammar.specs.Fault.{Unexpected, OutOfRange}
 use Rattle.grammar.specs.Parser as parser
-use Rattle.grammar.specs.Parser.{◌>>=◌, ◌>>◌, pure, either, many, closed, take}
+use Rattle.grammar.specs.Parser.{◌>>=◌, ◌>>◌, pure, if_next, many, closed, take}
 use Rattle.expression_reader.specs.declared.terminal.Terminal.{Terminal}
 use Rattle.expression_reader.specs.declared.terminal.Terminal.TheVariants as t
 use Rattle.grammar.specs.Tokens.{is}
 use Rattle.expression_reader.specs.Terminals.{symbols, is_keyword, is_punct, is_in_curly}
-use Rattle.expression_reader.specs.Trees.{Name, at}
+use Rattle.expression_reader.specs.Trees.{Name, pos_at}
 use Rattle.module_reader.specs.Trees.{statement_at, block_at, nested}
 use Rattle.expression_reader.specs.Rules.{is_quoted, is_number, largest}
-use Rattle.expression_reader.specs.Reference.{Parser, keyword, punct, name, named, quoted, number, optional, listed, listed_or_none, in_round, in_curly, outermost, tested, arguments}
+use Rattle.expression_reader.specs.Reference.{Parser, keyword, punct, name, named, quoted, number, optional, listed, listed_or_none, in_round, in_curly, outermost, test, arguments}
 
 -- ---- declarations
 
-abbrev pub type_by : Keyword → Kind → Parser Kind
-type_by word what = do
+abbrev pub kind_by : Keyword → Kind → Parser Kind
+kind_by word what = do
   keyword word
   pure what
 
 unfoldable pub valued : Parser Kind
-valued = either (is_keyword w.Int) (type_by w.Int kind.Int) (either (is_keyword w.Bool) (type_by w.Bool kind.Bool) (type_by w.Text kind.Text))
+valued = if_next (is_keyword w.Int) (kind_by w.Int kinds.Int) (if_next (is_keyword w.Bool) (kind_by w.Bool kinds.Bool) (kind_by w.Text kinds.Text))
 
-unfoldable pub any_type : Parser Kind
-any_type = either (is_keyword w.Pure) (type_by w.Pure kind.Pure) valued
+unfoldable pub kind : Parser Kind
+kind = if_next (is_keyword w.Pure) (kind_by w.Pure kinds.Pure) valued
 
 abbrev pub literal_by : Keyword → Bool → Parser Value
 literal_by word b = do
@@ -75,15 +75,15 @@ literal_negative = do
 
 unfoldable pub literal : Parser Value
 literal =
-    either (is_keyword w.True) (literal_by w.True true) (
-    either (is_keyword w.False) (literal_by w.False false) (
-    either is_quoted literal_text (
-    either is_number literal_number literal_negative)))
+    if_next (is_keyword w.True) (literal_by w.True true) (
+    if_next (is_keyword w.False) (literal_by w.False false) (
+    if_next is_quoted literal_text (
+    if_next is_number literal_number literal_negative)))
 
 abbrev pub behind_colon : Parser Kind
 behind_colon = do
   punct p.Colon
-  any_type
+  kind
 
 abbrev pub behind_equal : Parser Value
 behind_equal = do
@@ -91,7 +91,7 @@ behind_equal = do
   literal
 
 unfoldable pub kind_of_signal : Parser Kind
-kind_of_signal = either (is_punct p.Colon) behind_colon (pure kind.Pure)
+kind_of_signal = if_next (is_punct p.Colon) behind_colon (pure kinds.Pure)
 
 unfoldable pub first_value : Parser (Option Value)
 first_value = optional (is_punct p.Equal) behind_equal
@@ -103,10 +103,10 @@ combine_by a word = do
 
 unfoldable pub combine_word : Parser CombineWord
 combine_word =
-    either (is symbols t.Plus) (combine_by t.Plus combine.Plus) (
-    either (is symbols t.Min) (combine_by t.Min combine.Min) (
-    either (is symbols t.Max) (combine_by t.Max combine.Max) (
-    either (is symbols t.And) (combine_by t.And combine.And) (
+    if_next (is symbols t.Plus) (combine_by t.Plus combine.Plus) (
+    if_next (is symbols t.Min) (combine_by t.Min combine.Min) (
+    if_next (is symbols t.Max) (combine_by t.Max combine.Max) (
+    if_next (is symbols t.And) (combine_by t.And combine.And) (
     combine_by t.Or combine.Or))))
 
 abbrev pub behind_combine : Parser CombineWord
@@ -118,13 +118,13 @@ unfoldable pub combining : Parser (Option CombineWord)
 combining = optional (is_keyword w.Combine) behind_combine
 
 -- a signal without a type is pure
-unfoldable pub sig : Parser SigNode
-sig = do
+unfoldable pub signal : Parser SignalNode
+signal = do
   n ← name
   k ← kind_of_signal
   v ← first_value
   c ← combining
-  pure (record { pos = at n.0; name = n.1; kind = k; first = v; combine = c })
+  pure (record { pos = pos_at n.0; name = n.1; kind = k; first = v; combine = c })
 
 abbrev pub dir_by : Keyword → Dir → Parser Dir
 dir_by word what = do
@@ -132,27 +132,27 @@ dir_by word what = do
   pure what
 
 unfoldable pub direction : Parser Dir
-direction = either (is_keyword w.In) (dir_by w.In dir.Input) (either (is_keyword w.Out) (dir_by w.Out dir.Output) (dir_by w.Inout dir.Both))
+direction = if_next (is_keyword w.In) (dir_by w.In dir.Input) (if_next (is_keyword w.Out) (dir_by w.Out dir.Output) (dir_by w.Inout dir.Both))
 
-unfoldable pub decl : Parser DeclNode
-decl = do
+unfoldable pub interface : Parser InterfaceNode
+interface = do
   d ← direction
-  s ← sig
-  pure (record { dir = d; sig = s })
+  s ← signal
+  pure (record { dir = d; signal = s })
 
-unfoldable pub param : Parser ParamNode
-param = do
+unfoldable pub parameter : Parser ParameterNode
+parameter = do
   n ← name
   punct p.Colon
   k ← valued
-  pure (record { pos = at n.0; name = n.1; kind = k })
+  pure (record { pos = pos_at n.0; name = n.1; kind = k })
 
 -- ---- delays
 
-unfoldable pub once : ℕ → Parser (Plain Name)
+unfoldable pub once : ℕ → Parser (Later Name)
 once room = do
-  a ← tested room
-  pure (plain.Once a)
+  a ← test room
+  pure (laters.Once a)
 
 unfoldable pub times : ℕ → Parser (ℕ × ExprAt Name)
 times room = do
@@ -161,28 +161,28 @@ times room = do
   a ← outermost room
   pure (n.1, a)
 
-unfoldable pub count : ℕ → Parser (Plain Name)
+unfoldable pub count : ℕ → Parser (Later Name)
 count room = do
   keyword w.Count
   c ← in_round times room
-  pure (plain.Count c.0 c.1)
+  pure (laters.Count c.0 c.1)
 
-unfoldable pub plain_delay : ℕ → Parser (Plain Name)
-plain_delay room = either (is_punct p.LeftParen) (once room) (count room)
+unfoldable pub later : ℕ → Parser (Later Name)
+later room = if_next (is_punct p.LeftParen) (once room) (count room)
 
-unfoldable pub plainly : ℕ → Parser (Delay Name)
-plainly room = do
-  a ← plain_delay room
-  pure (delay.Plain a)
+unfoldable pub later_delay : ℕ → Parser (Delay Name)
+later_delay room = do
+  a ← later room
+  pure (delays.Later a)
 
 unfoldable pub immediate : ℕ → Parser (Delay Name)
 immediate room = do
   keyword w.Immediate
-  a ← tested room
-  pure (delay.Immediate a)
+  a ← test room
+  pure (delays.Immediate a)
 
-unfoldable pub any_delay : ℕ → Parser (Delay Name)
-any_delay room = either (is_keyword w.Immediate) (immediate room) (plainly room)
+unfoldable pub delay : ℕ → Parser (Delay Name)
+delay room = if_next (is_keyword w.Immediate) (immediate room) (later_delay room)
 
 -- ---- statements, by their blocks
 
@@ -193,7 +193,7 @@ simple word what = do
   pure (statement_at n what)
 
 unfoldable pub emitted : ℕ → Parser (Option (ExprAt Name))
-emitted room = optional (is_punct p.LeftParen) (tested room)
+emitted room = optional (is_punct p.LeftParen) (test room)
 
 -- what is emitted
 unfoldable pub emission : ℕ → Parser (NameAt Name × Option (ExprAt Name))
@@ -223,10 +223,10 @@ behind_else block = do
 unfoldable pub otherwise : Parser (BlockNode Name) → Parser (Option (BlockNode Name))
 otherwise block = optional (is_keyword w.Else) (behind_else block)
 
-unfoldable pub choice : Parser (BlockNode Name) → ℕ → Parser (StatementNode Name)
-choice block room = do
+unfoldable pub if_else : Parser (BlockNode Name) → ℕ → Parser (StatementNode Name)
+if_else block room = do
   n ← keyword w.If
-  a ← tested room
+  a ← test room
   b ← block
   c ← otherwise block
   pure (statement_at n (s.If a b c))
@@ -243,8 +243,8 @@ behind_par block = do
   block
 
 -- the branches of a fork
-unfoldable pub branches_of : Parser (BlockNode Name) → Parser (List (BlockNode Name))
-branches_of block = do
+unfoldable pub par_blocks : Parser (BlockNode Name) → Parser (List (BlockNode Name))
+par_blocks block = do
   b ← block
   bs ← many (is_keyword w.Par) (behind_par block)
   pure (b ∷ bs)
@@ -252,7 +252,7 @@ branches_of block = do
 unfoldable pub fork : Parser (BlockNode Name) → Parser (StatementNode Name)
 fork block = do
   n ← keyword w.Fork
-  bs ← branches_of block
+  bs ← par_blocks block
   pure (statement_at n (s.Fork bs))
 
 unfoldable pub nested_block : Parser (BlockNode Name) → Parser (StatementNode Name)
@@ -263,14 +263,14 @@ nested_block block = do
 unfoldable pub await_delay : ℕ → Parser (StatementNode Name)
 await_delay room = do
   n ← keyword w.Await
-  d ← any_delay room
+  d ← delay room
   punct p.Semicolon
   pure (statement_at n (s.Await d))
 
 unfoldable pub every : Parser (BlockNode Name) → ℕ → Parser (StatementNode Name)
 every block room = do
   n ← keyword w.Every
-  d ← any_delay room
+  d ← delay room
   b ← block
   pure (statement_at n (s.Every d b))
 
@@ -279,39 +279,39 @@ do_every block room = do
   n ← keyword w.Do
   b ← block
   keyword w.Every
-  d ← plain_delay room
+  d ← later room
   punct p.Semicolon
   pure (statement_at n (s.DoEvery b d))
 
 unfoldable pub abort : Parser (BlockNode Name) → ℕ → Parser (StatementNode Name)
 abort block room = do
   n ← keyword w.Abort
-  d ← any_delay room
+  d ← delay room
   b ← block
   pure (statement_at n (s.Abort d b))
 
 unfoldable pub weak_abort : Parser (BlockNode Name) → ℕ → Parser (StatementNode Name)
 weak_abort block room = do
   n ← keyword w.WeakAbort
-  d ← any_delay room
+  d ← delay room
   b ← block
   pure (statement_at n (s.WeakAbort d b))
 
 unfoldable pub has_immediate : Parser Bool
-has_immediate = either (is_keyword w.Immediate) (do keyword w.Immediate; pure true) (pure false)
+has_immediate = if_next (is_keyword w.Immediate) (do keyword w.Immediate; pure true) (pure false)
 
 unfoldable pub suspend : Parser (BlockNode Name) → ℕ → Parser (StatementNode Name)
 suspend block room = do
   n ← keyword w.Suspend
   i ← has_immediate
-  a ← tested room
+  a ← test room
   b ← block
   pure (statement_at n (s.Suspend i a b))
 
 unfoldable pub local : Parser (BlockNode Name) → Parser (StatementNode Name)
 local block = do
   n ← keyword w.Signal
-  ss ← listed sig
+  ss ← listed signal
   b ← block
   pure (statement_at n (s.Signal ss b))
 
@@ -381,7 +381,7 @@ statement_by block room (Some (t.Keyword w.Pause)) = simple w.Pause s.Pause
 statement_by block room (Some (t.Keyword w.Halt)) = simple w.Halt s.Halt
 statement_by block room (Some (t.Keyword w.Emit)) = emit room
 statement_by block room (Some (t.Keyword w.Sustain)) = sustain room
-statement_by block room (Some (t.Keyword w.If)) = choice block room
+statement_by block room (Some (t.Keyword w.If)) = if_else block room
 statement_by block room (Some (t.Keyword w.Loop)) = loop_block block
 statement_by block room (Some (t.Keyword w.Fork)) = fork block
 statement_by block room (Some (t.Keyword w.Await)) = await_delay room
@@ -406,19 +406,19 @@ block (suc room) = parser.opened symbols (suc room) (t.Punct p.LeftBrace) (λ le
 
 -- ---- texts
 
-unfoldable pub body : ℕ → Parser (Top Name)
+unfoldable pub body : ℕ → Parser (Part Name)
 body room = do
   keyword w.Body
   n ← name
   punct p.LeftParen
-  ps ← listed_or_none param
+  ps ← listed_or_none parameter
   punct p.RightParen
   punct p.Colon
   k ← valued
   a ← in_curly outermost room
-  pure (top.Body (record { pos = at n.0; name = n.1; params = ps; answer = k; expr = a }))
+  pure (part_of.Body (record { pos = pos_at n.0; name = n.1; parameters = ps; answer = k; expr = a }))
 
-unfoldable pub host : Parser (Top Name)
+unfoldable pub host : Parser (Part Name)
 host = do
   h ← keyword w.Host
   n ← name
@@ -426,25 +426,25 @@ host = do
   ks ← listed_or_none valued
   punct p.RightParen
   punct p.Colon
-  k ← any_type
+  k ← kind
   punct p.Semicolon
-  pure (top.Host (record { pos = at n.0; token = at h; name = n.1; params = ks; answer = k }))
+  pure (part_of.Host (record { pos = pos_at n.0; token = pos_at h; name = n.1; parameters = ks; answer = k }))
 
-unfoldable pub module_of : ℕ → Parser (Top Name)
+unfoldable pub module_of : ℕ → Parser (Part Name)
 module_of room = do
   keyword w.Module
   n ← name
   punct p.LeftParen
-  ds ← listed_or_none decl
+  ds ← listed_or_none interface
   punct p.RightParen
   b ← block room
-  pure (top.Module (record { pos = at n.0; name = n.1; decls = ds; block = b }))
+  pure (part_of.Module (record { pos = pos_at n.0; name = n.1; interface = ds; block = b }))
 
-unfoldable pub top_of : ℕ → Parser (Top Name)
-top_of room = either (is_keyword w.Body) (body room) (either (is_keyword w.Host) host (module_of room))
+unfoldable pub part : ℕ → Parser (Part Name)
+part room = if_next (is_keyword w.Body) (body room) (if_next (is_keyword w.Host) host (module_of room))
 
-abbrev pub begins_top : Terminal → Bool
-begins_top a = is_keyword w.Body a || (is_keyword w.Host a || is_keyword w.Module a)
+abbrev pub begins_part : Terminal → Bool
+begins_part a = is_keyword w.Body a || (is_keyword w.Host a || is_keyword w.Module a)
 
-unfoldable pub tops : ℕ → Parser (List (Top Name))
-tops room = many begins_top (top_of room)
+unfoldable pub parts : ℕ → Parser (List (Part Name))
+parts room = many begins_part (part room)

@@ -3,13 +3,13 @@ use Rattle.std.specs.Prelude.{ℕ}
 use Rattle.module_token.specs.declared.fault.ReadKind.{ReadKind}
 use Rattle.module_token.specs.declared.fault.ReadKind.TheVariants as k
 use Rattle.module_reader.specs.declared.fault.ReadFault.{ReadFault}
-use Rattle.expression_reader.specs.declared.fault.Refused.{Refused}
-use Rattle.expression_reader.specs.declared.fault.Refused.TheVariants as r
+use Rattle.expression_reader.specs.declared.fault.StepError.{StepError}
+use Rattle.expression_reader.specs.declared.fault.StepError.TheVariants as r
 
 abbrev fault : ℕ → ReadKind → ReadFault
 fault n kind = record { pos = record { 0 = n }; kind = kind }
 
-abbrev pub as_fault : Refused → ReadFault
+abbrev pub as_fault : StepError → ReadFault
 as_fault (r.Unexpected n) = fault n k.Unexpected
 as_fault (r.EndOfText n) = fault n k.EndOfText
 as_fault (r.DeepNesting n) = fault n k.DeepNesting

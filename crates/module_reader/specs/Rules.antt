@@ -2,7 +2,7 @@
 -- HipHop.js.
 use Rattle.std.specs.Prelude.{◌≡◌, ℕ, zero, suc, ◌^◌, pos, neg_ℤ, Bool, true, false, List, ◌∷◌, Option}
 use Rattle.hh_base.specs.declared.value.Kind.{Kind}
-use Rattle.hh_base.specs.declared.value.Kind.TheVariants as kind
+use Rattle.hh_base.specs.declared.value.Kind.TheVariants as kinds
 use Rattle.hh_base.specs.declared.value.Value.{Value}
 use Rattle.hh_base.specs.declared.value.Value.TheVariants as value
 use Rattle.hh_base.specs.declared.value.CombineWord.{CombineWord}
@@ -14,42 +14,42 @@ use Rattle.hh_base.specs.declared.value.Dir.{Dir}
 use Rattle.hh_base.specs.declared.value.Dir.TheVariants as dir
 use Rattle.module_tree.specs.declared.source.NameAt.{NameAt}
 use Rattle.module_tree.specs.declared.source.ExprAt.{ExprAt}
-use Rattle.module_tree.specs.declared.source.ParamNode.{ParamNode}
-use Rattle.module_tree.specs.declared.source.SigNode.{SigNode}
-use Rattle.module_tree.specs.declared.source.DeclNode.{DeclNode}
+use Rattle.module_tree.specs.declared.source.ParameterNode.{ParameterNode}
+use Rattle.module_tree.specs.declared.source.SignalNode.{SignalNode}
+use Rattle.module_tree.specs.declared.source.InterfaceNode.{InterfaceNode}
 use Rattle.module_tree.specs.declared.source.BlockNode.{BlockNode}
 use Rattle.module_tree.specs.declared.source.StatementNode.{StatementNode}
 use Rattle.module_tree.specs.declared.source.Statement.{Statement}
 use Rattle.module_tree.specs.declared.source.Statement.TheVariants as node
 use Rattle.module_tree.specs.declared.source.Delay.{Delay}
-use Rattle.module_tree.specs.declared.source.Delay.TheVariants as delay
-use Rattle.module_tree.specs.declared.source.Plain.{Plain}
-use Rattle.module_tree.specs.declared.source.Plain.TheVariants as plain
+use Rattle.module_tree.specs.declared.source.Delay.TheVariants as delays
+use Rattle.module_tree.specs.declared.source.Later.{Later}
+use Rattle.module_tree.specs.declared.source.Later.TheVariants as laters
 use Rattle.module_tree.specs.declared.source.Binding.{Binding}
-use Rattle.module_tree.specs.declared.source.Top.{Top}
-use Rattle.module_tree.specs.declared.source.Top.TheVariants as top
+use Rattle.module_tree.specs.declared.source.Part.{Part}
+use Rattle.module_tree.specs.declared.source.Part.TheVariants as part_of
 use Rattle.grammar.specs.Language as language
 use Rattle.grammar.specs.Language.{◌>>=◌, ◌>>◌, pure, ◌or◌, many, nothing}
 use Rattle.expression_reader.specs.declared.terminal.Terminal.{Terminal}
 use Rattle.expression_reader.specs.declared.terminal.Terminal.TheVariants as terminal
-use Rattle.expression_reader.specs.Trees.{Name, at}
-use Rattle.expression_reader.specs.Rules.{Lang, keyword, punct, name, quoted, named, number, optional, listed, listed_or_none, in_round, in_curly, largest, outermost, tested, arguments}
+use Rattle.expression_reader.specs.Trees.{Name, pos_at}
+use Rattle.expression_reader.specs.Rules.{Lang, keyword, punct, name, quoted, named, number, optional, listed, listed_or_none, in_round, in_curly, largest, outermost, test, arguments}
 use Rattle.module_reader.specs.Trees.{statement_at, block_at, nested, has_module}
 
 -- ---- declarations
 
-abbrev pub type_by : Keyword → Kind → Lang Kind
-type_by name what = do
+abbrev pub kind_by : Keyword → Kind → Lang Kind
+kind_by name what = do
   keyword name
   pure what
 
 -- valued = "int" | "bool" | "text"
 abbrev pub valued : Lang Kind
-valued = type_by word.Int kind.Int or type_by word.Bool kind.Bool or type_by word.Text kind.Text
+valued = kind_by word.Int kinds.Int or kind_by word.Bool kinds.Bool or kind_by word.Text kinds.Text
 
 -- type = "pure" | valued
-abbrev pub type : Lang Kind
-type = type_by word.Pure kind.Pure or valued
+abbrev pub kind : Lang Kind
+kind = kind_by word.Pure kinds.Pure or valued
 
 abbrev pub literal_by : Keyword → Bool → Lang Value
 literal_by name truth = do
@@ -79,7 +79,7 @@ literal = literal_by word.True true or literal_by word.False false or literal_te
 abbrev pub behind_colon : Lang Kind
 behind_colon = do
   punct mark.Colon
-  type
+  kind
 
 abbrev pub behind_equal : Lang Value
 behind_equal = do
@@ -104,13 +104,13 @@ behind_combine = do
 
 -- sig = name [ ":" type ] [ "=" literal ] [ "combine" combine ]
 -- A signal without a type is pure.
-abbrev pub sig : Lang SigNode
-sig = do
+abbrev pub signal : Lang SignalNode
+signal = do
   declared ← name
-  typed ← behind_colon or pure kind.Pure
+  typed ← behind_colon or pure kinds.Pure
   first ← optional behind_equal
   combined ← optional behind_combine
-  pure (record { pos = at declared.0; name = declared.1; kind = typed; first = first; combine = combined })
+  pure (record { pos = pos_at declared.0; name = declared.1; kind = typed; first = first; combine = combined })
 
 abbrev pub dir_by : Keyword → Dir → Lang Dir
 dir_by name what = do
@@ -121,27 +121,27 @@ abbrev pub direction : Lang Dir
 direction = dir_by word.In dir.Input or dir_by word.Out dir.Output or dir_by word.Inout dir.Both
 
 -- decl = ( "in" | "out" | "inout" ) sig
-abbrev pub decl : Lang DeclNode
-decl = do
+abbrev pub interface : Lang InterfaceNode
+interface = do
   way ← direction
-  signal ← sig
-  pure (record { dir = way; sig = signal })
+  signal ← signal
+  pure (record { dir = way; signal = signal })
 
 -- param = name ":" valued
-abbrev pub param : Lang ParamNode
-param = do
+abbrev pub parameter : Lang ParameterNode
+parameter = do
   declared ← name
   punct mark.Colon
   typed ← valued
-  pure (record { pos = at declared.0; name = declared.1; kind = typed })
+  pure (record { pos = pos_at declared.0; name = declared.1; kind = typed })
 
 -- ---- delays
 
 -- once = "(" expr ")"
-abbrev pub once : ℕ → Lang (Plain Name)
+abbrev pub once : ℕ → Lang (Later Name)
 once room = do
-  test ← tested room
-  pure (plain.Once test)
+  test ← test room
+  pure (laters.Once test)
 
 abbrev pub times : ℕ → Lang (ℕ × ExprAt Name)
 times room = do
@@ -151,30 +151,30 @@ times room = do
   pure (written.1, test)
 
 -- count = "count" "(" number "," expr ")"
-abbrev pub count : ℕ → Lang (Plain Name)
+abbrev pub count : ℕ → Lang (Later Name)
 count room = do
   keyword word.Count
   counted ← in_round times room
-  pure (plain.Count counted.0 counted.1)
+  pure (laters.Count counted.0 counted.1)
 
 -- plain = once | count
-abbrev pub plain_delay : ℕ → Lang (Plain Name)
-plain_delay room = once room or count room
+abbrev pub later : ℕ → Lang (Later Name)
+later room = once room or count room
 
-abbrev pub plainly : ℕ → Lang (Delay Name)
-plainly room = do
-  waited ← plain_delay room
-  pure (delay.Plain waited)
+abbrev pub later_delay : ℕ → Lang (Delay Name)
+later_delay room = do
+  waited ← later room
+  pure (delays.Later waited)
 
 abbrev pub immediate : ℕ → Lang (Delay Name)
 immediate room = do
   keyword word.Immediate
-  test ← tested room
-  pure (delay.Immediate test)
+  test ← test room
+  pure (delays.Immediate test)
 
 -- delay = plain | "immediate" "(" expr ")"
-abbrev pub any_delay : ℕ → Lang (Delay Name)
-any_delay room = immediate room or plainly room
+abbrev pub delay : ℕ → Lang (Delay Name)
+delay room = immediate room or later_delay room
 
 -- ---- statements, by their blocks
 
@@ -189,7 +189,7 @@ simple name what = do
 abbrev pub emission : ℕ → Lang (NameAt Name × Option (ExprAt Name))
 emission room = do
   signal ← named
-  emitted ← optional (tested room)
+  emitted ← optional (test room)
   punct mark.Semicolon
   pure (signal, emitted)
 
@@ -213,10 +213,10 @@ behind_else block = do
   block
 
 -- "if" "(" expr ")" block [ "else" block ]
-abbrev pub choice : Lang (BlockNode Name) → ℕ → Lang (StatementNode Name)
-choice block room = do
+abbrev pub if_else : Lang (BlockNode Name) → ℕ → Lang (StatementNode Name)
+if_else block room = do
   place ← keyword word.If
-  test ← tested room
+  test ← test room
   first ← block
   second ← optional (behind_else block)
   pure (statement_at place (node.If test first second))
@@ -234,8 +234,8 @@ behind_par block = do
   block
 
 -- block { "par" block }
-abbrev pub branches_of : Lang (BlockNode Name) → Lang (List (BlockNode Name))
-branches_of block = do
+abbrev pub par_blocks : Lang (BlockNode Name) → Lang (List (BlockNode Name))
+par_blocks block = do
   first ← block
   others ← many (behind_par block)
   pure (first ∷ others)
@@ -244,7 +244,7 @@ branches_of block = do
 abbrev pub fork : Lang (BlockNode Name) → Lang (StatementNode Name)
 fork block = do
   place ← keyword word.Fork
-  branches ← branches_of block
+  branches ← par_blocks block
   pure (statement_at place (node.Fork branches))
 
 -- a block that is a statement
@@ -257,7 +257,7 @@ nested_block block = do
 abbrev pub await : ℕ → Lang (StatementNode Name)
 await room = do
   place ← keyword word.Await
-  waited ← any_delay room
+  waited ← delay room
   punct mark.Semicolon
   pure (statement_at place (node.Await waited))
 
@@ -265,7 +265,7 @@ await room = do
 abbrev pub every : Lang (BlockNode Name) → ℕ → Lang (StatementNode Name)
 every block room = do
   place ← keyword word.Every
-  waited ← any_delay room
+  waited ← delay room
   repeated ← block
   pure (statement_at place (node.Every waited repeated))
 
@@ -275,7 +275,7 @@ do_every block room = do
   place ← keyword word.Do
   repeated ← block
   keyword word.Every
-  waited ← plain_delay room
+  waited ← later room
   punct mark.Semicolon
   pure (statement_at place (node.DoEvery repeated waited))
 
@@ -283,7 +283,7 @@ do_every block room = do
 abbrev pub abort : Lang (BlockNode Name) → ℕ → Lang (StatementNode Name)
 abort block room = do
   place ← keyword word.Abort
-  waited ← any_delay room
+  waited ← delay room
   aborted ← block
   pure (statement_at place (node.Abort waited aborted))
 
@@ -291,7 +291,7 @@ abort block room = do
 abbrev pub weak_abort : Lang (BlockNode Name) → ℕ → Lang (StatementNode Name)
 weak_abort block room = do
   place ← keyword word.WeakAbort
-  waited ← any_delay room
+  waited ← delay room
   aborted ← block
   pure (statement_at place (node.WeakAbort waited aborted))
 
@@ -303,7 +303,7 @@ abbrev pub suspend : Lang (BlockNode Name) → ℕ → Lang (StatementNode Name)
 suspend block room = do
   place ← keyword word.Suspend
   at_once ← has_immediate
-  test ← tested room
+  test ← test room
   suspended ← block
   pure (statement_at place (node.Suspend at_once test suspended))
 
@@ -311,7 +311,7 @@ suspend block room = do
 abbrev pub local : Lang (BlockNode Name) → Lang (StatementNode Name)
 local block = do
   place ← keyword word.Signal
-  signals ← listed sig
+  signals ← listed signal
   scope ← block
   pure (statement_at place (node.Signal signals scope))
 
@@ -378,7 +378,7 @@ abbrev pub statement : Lang (BlockNode Name) → ℕ → Lang (StatementNode Nam
 statement block room =
     simple word.Nothing node.Nothing or simple word.Pause node.Pause or simple word.Halt node.Halt
     or emit room or sustain room
-    or choice block room
+    or if_else block room
     or loop block or fork block
     or await room or every block room or do_every block room
     or abort block room or weak_abort block room
@@ -396,50 +396,50 @@ block (suc room) = language.opened (suc room) (terminal.Punct mark.LeftBrace) (�
 -- ---- texts. No bracket is open before the lists of their declarations, so there is always room for one.
 
 -- body = "body" name "(" [ param { "," param } ] ")" ":" valued "{" expr "}"
-abbrev pub body : ℕ → Lang (Top Name)
+abbrev pub body : ℕ → Lang (Part Name)
 body room = do
   keyword word.Body
   declared ← name
   punct mark.LeftParen
-  params ← listed_or_none param
+  parameters ← listed_or_none parameter
   punct mark.RightParen
   punct mark.Colon
   answer ← valued
   expression ← in_curly outermost room
-  pure (top.Body (record { pos = at declared.0; name = declared.1; params = params; answer = answer; expr = expression }))
+  pure (part_of.Body (record { pos = pos_at declared.0; name = declared.1; parameters = parameters; answer = answer; expr = expression }))
 
 -- host = "host" name "(" [ valued { "," valued } ] ")" ":" type ";"
-abbrev pub host : Lang (Top Name)
+abbrev pub host : Lang (Part Name)
 host = do
   token ← keyword word.Host
   declared ← name
   punct mark.LeftParen
-  params ← listed_or_none valued
+  parameters ← listed_or_none valued
   punct mark.RightParen
   punct mark.Colon
-  answer ← type
+  answer ← kind
   punct mark.Semicolon
-  pure (top.Host (record { pos = at declared.0; token = at token; name = declared.1; params = params; answer = answer }))
+  pure (part_of.Host (record { pos = pos_at declared.0; token = pos_at token; name = declared.1; parameters = parameters; answer = answer }))
 
 -- module = "module" name "(" [ decl { "," decl } ] ")" block
-abbrev pub module_of : ℕ → Lang (Top Name)
+abbrev pub module_of : ℕ → Lang (Part Name)
 module_of room = do
   keyword word.Module
   declared ← name
   punct mark.LeftParen
-  decls ← listed_or_none decl
+  interface ← listed_or_none interface
   punct mark.RightParen
   statements ← block room
-  pure (top.Module (record { pos = at declared.0; name = declared.1; decls = decls; block = statements }))
+  pure (part_of.Module (record { pos = pos_at declared.0; name = declared.1; interface = interface; block = statements }))
 
 -- body | host | module
-abbrev pub top_of : ℕ → Lang (Top Name)
-top_of room = body room or host or module_of room
+abbrev pub part : ℕ → Lang (Part Name)
+part room = body room or host or module_of room
 
 -- { body | host | module }
-abbrev pub tops : ℕ → Lang (List (Top Name))
-tops room = many (top_of room)
+abbrev pub parts : ℕ → Lang (List (Part Name))
+parts room = many (part room)
 
 -- text = { body | host } module { body | host | module }
-abbrev pub texts : ℕ → Lang (List (Top Name))
-texts room tree text marks = tops room tree text marks × (has_module tree ≡ true)
+abbrev pub program : ℕ → Lang (List (Part Name))
+program room tree text marks = parts room tree text marks × (has_module tree ≡ true)

@@ -5,17 +5,17 @@ use Rattle.module_tree.specs.declared.source.BlockNode.{BlockNode, roll-BlockNod
 use Rattle.module_tree.specs.declared.source.StatementNode.{StatementNode, roll-StatementNode}
 use Rattle.module_tree.specs.declared.source.Statement.{Statement}
 use Rattle.module_tree.specs.declared.source.Statement.TheVariants as s
-use Rattle.module_tree.specs.declared.source.Top.{Top}
+use Rattle.module_tree.specs.declared.source.Part.{Part}
 use Rattle.module_tree.specs.Source.{is_module}
-use Rattle.expression_reader.specs.Trees.{Name, at}
+use Rattle.expression_reader.specs.Trees.{Name, pos_at}
 
 -- ---- statements
 
 abbrev pub statement_at : ℕ → Statement Name → StatementNode Name
-statement_at n what = roll-StatementNode Name (record { pos = at n; what = what })
+statement_at n what = roll-StatementNode Name (record { pos = pos_at n; what = what })
 
 abbrev pub block_at : ℕ → List (StatementNode Name) → BlockNode Name
-block_at n xs = roll-BlockNode Name (record { pos = at n; statements = xs })
+block_at n xs = roll-BlockNode Name (record { pos = pos_at n; statements = xs })
 
 -- a block that is a statement stands where the block does
 abbrev pub nested : BlockNode Name → StatementNode Name
@@ -23,5 +23,5 @@ nested b = roll-StatementNode Name (record { pos = (out-BlockNode Name b).pos; w
 
 -- ---- texts
 
-abbrev pub has_module : List (Top Name) → Bool
+abbrev pub has_module : List (Part Name) → Bool
 has_module = list_any is_module

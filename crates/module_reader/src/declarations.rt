@@ -1,15 +1,15 @@
 //! Signals, parameters, types and literals.
 ghost use Rattle.std.specs.Prelude.{◌≡◌, ◌≤◌, ◌^◌, pos, neg_ℤ};
 ghost use Rattle.grammar.specs.Parser.{Reads};
-ghost use Rattle.expression_reader.specs.Refusals.{seen};
+ghost use Rattle.expression_reader.specs.Refusals.{as_refusal};
 ghost use Rattle.module_reader.specs.Reference as rule;
 
 use expression_reader::cursor::Reader;
-use expression_reader::fault::Refused;
+use expression_reader::fault::StepError;
 use expression_reader::terminal::Terminal;
 use hh_base::value::{CombineWord, Kind, Pos, Value};
 use hh_base::value::Dir;
-use module_tree::source::{DeclNode, ParamNode, SigNode};
+use module_tree::source::{InterfaceNode, ParameterNode, SignalNode};
 use module_token::keyword::Keyword;
 use module_token::punct::Punct;
 
@@ -32,64 +32,64 @@ fn negated(value: u64) -> i64
 
 // ---- types
 
-fn read_type_by(reader: &mut Reader<'_>, word: Keyword, kind: Kind) -> Result<Kind, Refused>
-    ensures { Reads seen (rule.type_by word kind reader.old) result reader.new }
+fn read_kind_by(reader: &mut Reader<'_>, word: Keyword, kind: Kind) -> Result<Kind, StepError>
+    ensures { Reads as_refusal (rule.kind_by word kind reader.old) result reader.new }
 {
     reader.keyword(word)?;
     Ok(kind)
 }
 
 #[tactic(auto, unfolding(crate::specs::Reference::valued))]
-pub(crate) fn read_valued(reader: &mut Reader<'_>) -> Result<Kind, Refused>
-    ensures { Reads seen (rule.valued reader.old) result reader.new }
+pub(crate) fn read_valued(reader: &mut Reader<'_>) -> Result<Kind, StepError>
+    ensures { Reads as_refusal (rule.valued reader.old) result reader.new }
 {
     if reader.sees_keyword(Keyword::Int) {
-        return read_type_by(reader, Keyword::Int, Kind::Int);
+        return read_kind_by(reader, Keyword::Int, Kind::Int);
     }
     if reader.sees_keyword(Keyword::Bool) {
-        return read_type_by(reader, Keyword::Bool, Kind::Bool);
+        return read_kind_by(reader, Keyword::Bool, Kind::Bool);
     }
-    read_type_by(reader, Keyword::Text, Kind::Text)
+    read_kind_by(reader, Keyword::Text, Kind::Text)
 }
 
-#[tactic(auto, unfolding(crate::specs::Reference::any_type))]
-pub(crate) fn read_kind_of_type(reader: &mut Reader<'_>) -> Result<Kind, Refused>
-    ensures { Reads seen (rule.any_type reader.old) result reader.new }
+#[tactic(auto, unfolding(crate::specs::Reference::kind))]
+pub(crate) fn read_kind(reader: &mut Reader<'_>) -> Result<Kind, StepError>
+    ensures { Reads as_refusal (rule.kind reader.old) result reader.new }
 {
     if reader.sees_keyword(Keyword::Pure) {
-        return read_type_by(reader, Keyword::Pure, Kind::Pure);
+        return read_kind_by(reader, Keyword::Pure, Kind::Pure);
     }
     read_valued(reader)
 }
 
 // ---- literals
 
-fn read_literal_by(reader: &mut Reader<'_>, word: Keyword, value: bool) -> Result<Value, Refused>
-    ensures { Reads seen (rule.literal_by word value reader.old) result reader.new }
+fn read_literal_by(reader: &mut Reader<'_>, word: Keyword, value: bool) -> Result<Value, StepError>
+    ensures { Reads as_refusal (rule.literal_by word value reader.old) result reader.new }
 {
     reader.keyword(word)?;
     Ok(Value::Bool(value))
 }
 
 #[tactic(auto, unfolding(crate::specs::Reference::literal_text))]
-fn read_literal_text(reader: &mut Reader<'_>) -> Result<Value, Refused>
-    ensures { Reads seen (rule.literal_text reader.old) result reader.new }
+fn read_literal_text(reader: &mut Reader<'_>) -> Result<Value, StepError>
+    ensures { Reads as_refusal (rule.literal_text reader.old) result reader.new }
 {
     let (_, text) = reader.quoted()?;
     Ok(Value::Text(text))
 }
 
 #[tactic(auto, unfolding(crate::specs::Reference::literal_number))]
-fn read_literal_number(reader: &mut Reader<'_>) -> Result<Value, Refused>
-    ensures { Reads seen (rule.literal_number reader.old) result reader.new }
+fn read_literal_number(reader: &mut Reader<'_>) -> Result<Value, StepError>
+    ensures { Reads as_refusal (rule.literal_number reader.old) result reader.new }
 {
     let (_, value) = reader.number_up_to(LARGEST)?;
     Ok(Value::Int(value as i64))
 }
 
 #[tactic(auto, unfolding(crate::specs::Reference::literal_negative))]
-fn read_literal_negative(reader: &mut Reader<'_>) -> Result<Value, Refused>
-    ensures { Reads seen (rule.literal_negative reader.old) result reader.new }
+fn read_literal_negative(reader: &mut Reader<'_>) -> Result<Value, StepError>
+    ensures { Reads as_refusal (rule.literal_negative reader.old) result reader.new }
 {
     reader.punct(Punct::Minus)?;
     let (_, value) = reader.number_up_to(LEAST)?;
@@ -97,8 +97,8 @@ fn read_literal_negative(reader: &mut Reader<'_>) -> Result<Value, Refused>
 }
 
 #[tactic(auto, unfolding(crate::specs::Reference::literal))]
-fn read_literal(reader: &mut Reader<'_>) -> Result<Value, Refused>
-    ensures { Reads seen (rule.literal reader.old) result reader.new }
+fn read_literal(reader: &mut Reader<'_>) -> Result<Value, StepError>
+    ensures { Reads as_refusal (rule.literal reader.old) result reader.new }
 {
     if reader.sees_keyword(Keyword::True) {
         return read_literal_by(reader, Keyword::True, true);
@@ -118,19 +118,19 @@ fn read_literal(reader: &mut Reader<'_>) -> Result<Value, Refused>
 // ---- the parts of a signal
 
 #[tactic(auto, unfolding(crate::specs::Reference::kind_of_signal))]
-fn read_kind_of_signal(reader: &mut Reader<'_>) -> Result<Kind, Refused>
-    ensures { Reads seen (rule.kind_of_signal reader.old) result reader.new }
+fn read_kind_of_signal(reader: &mut Reader<'_>) -> Result<Kind, StepError>
+    ensures { Reads as_refusal (rule.kind_of_signal reader.old) result reader.new }
 {
     if !reader.sees_punct(Punct::Colon) {
         return Ok(Kind::Pure);
     }
     reader.punct(Punct::Colon)?;
-    read_kind_of_type(reader)
+    read_kind(reader)
 }
 
 #[tactic(auto, unfolding(crate::specs::Reference::first_value))]
-fn read_first_value(reader: &mut Reader<'_>) -> Result<Option<Value>, Refused>
-    ensures { Reads seen (rule.first_value reader.old) result reader.new }
+fn read_first_value(reader: &mut Reader<'_>) -> Result<Option<Value>, StepError>
+    ensures { Reads as_refusal (rule.first_value reader.old) result reader.new }
 {
     if !reader.sees_punct(Punct::Equal) {
         return Ok(None);
@@ -143,16 +143,16 @@ fn read_combine_by(
     reader: &mut Reader<'_>,
     word: Terminal,
     combine: CombineWord,
-) -> Result<CombineWord, Refused>
-    ensures { Reads seen (rule.combine_by word combine reader.old) result reader.new }
+) -> Result<CombineWord, StepError>
+    ensures { Reads as_refusal (rule.combine_by word combine reader.old) result reader.new }
 {
     reader.take(word)?;
     Ok(combine)
 }
 
 #[tactic(auto, unfolding(crate::specs::Reference::combine_word))]
-fn read_combine_word(reader: &mut Reader<'_>) -> Result<CombineWord, Refused>
-    ensures { Reads seen (rule.combine_word reader.old) result reader.new }
+fn read_combine_word(reader: &mut Reader<'_>) -> Result<CombineWord, StepError>
+    ensures { Reads as_refusal (rule.combine_word reader.old) result reader.new }
 {
     if reader.sees(Terminal::Plus) {
         return read_combine_by(reader, Terminal::Plus, CombineWord::Plus);
@@ -170,8 +170,8 @@ fn read_combine_word(reader: &mut Reader<'_>) -> Result<CombineWord, Refused>
 }
 
 #[tactic(auto, unfolding(crate::specs::Reference::combining))]
-fn read_combining(reader: &mut Reader<'_>) -> Result<Option<CombineWord>, Refused>
-    ensures { Reads seen (rule.combining reader.old) result reader.new }
+fn read_combining(reader: &mut Reader<'_>) -> Result<Option<CombineWord>, StepError>
+    ensures { Reads as_refusal (rule.combining reader.old) result reader.new }
 {
     if !reader.sees_keyword(Keyword::Combine) {
         return Ok(None);
@@ -181,15 +181,15 @@ fn read_combining(reader: &mut Reader<'_>) -> Result<Option<CombineWord>, Refuse
 }
 
 /// A signal without a type is pure.
-#[tactic(auto, unfolding(crate::specs::Reference::sig))]
-pub(crate) fn read_sig(reader: &mut Reader<'_>) -> Result<SigNode, Refused>
-    ensures { Reads seen (rule.sig reader.old) result reader.new }
+#[tactic(auto, unfolding(crate::specs::Reference::signal))]
+pub(crate) fn read_signal(reader: &mut Reader<'_>) -> Result<SignalNode, StepError>
+    ensures { Reads as_refusal (rule.signal reader.old) result reader.new }
 {
     let (pos, name) = reader.name()?;
     let kind = read_kind_of_signal(reader)?;
     let first = read_first_value(reader)?;
     let combine = read_combining(reader)?;
-    Ok(SigNode {
+    Ok(SignalNode {
         pos: Pos(pos),
         name,
         kind,
@@ -200,16 +200,16 @@ pub(crate) fn read_sig(reader: &mut Reader<'_>) -> Result<SigNode, Refused>
 
 // ---- declarations
 
-fn read_direction_by(reader: &mut Reader<'_>, word: Keyword, dir: Dir) -> Result<Dir, Refused>
-    ensures { Reads seen (rule.dir_by word dir reader.old) result reader.new }
+fn read_direction_by(reader: &mut Reader<'_>, word: Keyword, dir: Dir) -> Result<Dir, StepError>
+    ensures { Reads as_refusal (rule.dir_by word dir reader.old) result reader.new }
 {
     reader.keyword(word)?;
     Ok(dir)
 }
 
 #[tactic(auto, unfolding(crate::specs::Reference::direction))]
-fn read_direction(reader: &mut Reader<'_>) -> Result<Dir, Refused>
-    ensures { Reads seen (rule.direction reader.old) result reader.new }
+fn read_direction(reader: &mut Reader<'_>) -> Result<Dir, StepError>
+    ensures { Reads as_refusal (rule.direction reader.old) result reader.new }
 {
     if reader.sees_keyword(Keyword::In) {
         return read_direction_by(reader, Keyword::In, Dir::Input);
@@ -220,23 +220,23 @@ fn read_direction(reader: &mut Reader<'_>) -> Result<Dir, Refused>
     read_direction_by(reader, Keyword::Inout, Dir::Both)
 }
 
-#[tactic(auto, unfolding(crate::specs::Reference::decl))]
-pub(crate) fn read_decl(reader: &mut Reader<'_>) -> Result<DeclNode, Refused>
-    ensures { Reads seen (rule.decl reader.old) result reader.new }
+#[tactic(auto, unfolding(crate::specs::Reference::interface))]
+pub(crate) fn read_interface(reader: &mut Reader<'_>) -> Result<InterfaceNode, StepError>
+    ensures { Reads as_refusal (rule.interface reader.old) result reader.new }
 {
     let dir = read_direction(reader)?;
-    let sig = read_sig(reader)?;
-    Ok(DeclNode { dir, sig })
+    let signal = read_signal(reader)?;
+    Ok(InterfaceNode { dir, signal })
 }
 
-#[tactic(auto, unfolding(crate::specs::Reference::param))]
-pub(crate) fn read_param(reader: &mut Reader<'_>) -> Result<ParamNode, Refused>
-    ensures { Reads seen (rule.param reader.old) result reader.new }
+#[tactic(auto, unfolding(crate::specs::Reference::parameter))]
+pub(crate) fn read_parameter(reader: &mut Reader<'_>) -> Result<ParameterNode, StepError>
+    ensures { Reads as_refusal (rule.parameter reader.old) result reader.new }
 {
     let (pos, name) = reader.name()?;
     reader.punct(Punct::Colon)?;
     let kind = read_valued(reader)?;
-    Ok(ParamNode {
+    Ok(ParameterNode {
         pos: Pos(pos),
         name,
         kind,

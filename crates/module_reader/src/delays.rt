@@ -1,16 +1,16 @@
 //! Delays, emissions, and the parts of `run` and `async`.
 ghost use Rattle.std.specs.Prelude.{◌≡◌};
 ghost use Rattle.grammar.specs.Parser.{Reads};
-ghost use Rattle.expression_reader.specs.Refusals.{seen};
+ghost use Rattle.expression_reader.specs.Refusals.{as_refusal};
 ghost use Rattle.expression_reader.specs.Reference as part;
 ghost use Rattle.module_reader.specs.Reference as rule;
 
 use crate::lists::read_list_or_none;
 use expression_reader::cursor::Reader;
-use expression_reader::fault::Refused;
+use expression_reader::fault::StepError;
 use hh_base::name::Name;
 use hh_base::text::Text;
-use module_tree::source::{Binding, Delay, ExprAt, NameAt, Plain};
+use module_tree::source::{Binding, Delay, ExprAt, NameAt, Later};
 use module_token::keyword::Keyword;
 use module_token::punct::Punct;
 use sqlite_items::Items;
@@ -19,8 +19,8 @@ use sqlite_items::Items;
 
 /// How often, and for what.
 #[tactic(auto, unfolding(crate::specs::Reference::times, expression_reader::specs::Reference::in_round, grammar::specs::Parser::opened))]
-fn read_counted_times(reader: &mut Reader<'_>, room: u8) -> Result<(u8, ExprAt<Name>), Refused>
-    ensures { Reads seen (part.in_round rule.times room reader.old) result reader.new }
+fn read_counted_times(reader: &mut Reader<'_>, room: u8) -> Result<(u8, ExprAt<Name>), StepError>
+    ensures { Reads as_refusal (part.in_round rule.times room reader.old) result reader.new }
 {
     if room == 0 {
         return Err(reader.too_deep(Punct::LeftParen));
@@ -34,25 +34,25 @@ fn read_counted_times(reader: &mut Reader<'_>, room: u8) -> Result<(u8, ExprAt<N
 }
 
 #[tactic(auto, unfolding(crate::specs::Reference::count))]
-fn read_count_delay(reader: &mut Reader<'_>, room: u8) -> Result<Plain<Name>, Refused>
-    ensures { Reads seen (rule.count room reader.old) result reader.new }
+fn read_count_delay(reader: &mut Reader<'_>, room: u8) -> Result<Later<Name>, StepError>
+    ensures { Reads as_refusal (rule.count room reader.old) result reader.new }
 {
     reader.keyword(Keyword::Count)?;
     let (times, expr) = read_counted_times(reader, room)?;
-    Ok(Plain::Count(times, expr))
+    Ok(Later::Count(times, expr))
 }
 
 #[tactic(auto, unfolding(crate::specs::Reference::once))]
-fn read_once(reader: &mut Reader<'_>, room: u8) -> Result<Plain<Name>, Refused>
-    ensures { Reads seen (rule.once room reader.old) result reader.new }
+fn read_once(reader: &mut Reader<'_>, room: u8) -> Result<Later<Name>, StepError>
+    ensures { Reads as_refusal (rule.once room reader.old) result reader.new }
 {
     let expr = reader.tested(room)?;
-    Ok(Plain::Once(expr))
+    Ok(Later::Once(expr))
 }
 
-#[tactic(auto, unfolding(crate::specs::Reference::plain_delay))]
-pub(crate) fn read_plain_delay(reader: &mut Reader<'_>, room: u8) -> Result<Plain<Name>, Refused>
-    ensures { Reads seen (rule.plain_delay room reader.old) result reader.new }
+#[tactic(auto, unfolding(crate::specs::Reference::later))]
+pub(crate) fn read_later(reader: &mut Reader<'_>, room: u8) -> Result<Later<Name>, StepError>
+    ensures { Reads as_refusal (rule.later room reader.old) result reader.new }
 {
     if reader.sees_punct(Punct::LeftParen) {
         read_once(reader, room)
@@ -62,36 +62,36 @@ pub(crate) fn read_plain_delay(reader: &mut Reader<'_>, room: u8) -> Result<Plai
 }
 
 #[tactic(auto, unfolding(crate::specs::Reference::immediate))]
-fn read_immediate(reader: &mut Reader<'_>, room: u8) -> Result<Delay<Name>, Refused>
-    ensures { Reads seen (rule.immediate room reader.old) result reader.new }
+fn read_immediate(reader: &mut Reader<'_>, room: u8) -> Result<Delay<Name>, StepError>
+    ensures { Reads as_refusal (rule.immediate room reader.old) result reader.new }
 {
     reader.keyword(Keyword::Immediate)?;
     let expr = reader.tested(room)?;
     Ok(Delay::Immediate(expr))
 }
 
-#[tactic(auto, unfolding(crate::specs::Reference::plainly))]
-fn read_plainly(reader: &mut Reader<'_>, room: u8) -> Result<Delay<Name>, Refused>
-    ensures { Reads seen (rule.plainly room reader.old) result reader.new }
+#[tactic(auto, unfolding(crate::specs::Reference::later_delay))]
+fn read_later_delay(reader: &mut Reader<'_>, room: u8) -> Result<Delay<Name>, StepError>
+    ensures { Reads as_refusal (rule.later_delay room reader.old) result reader.new }
 {
-    let plain = read_plain_delay(reader, room)?;
-    Ok(Delay::Plain(plain))
+    let later = read_later(reader, room)?;
+    Ok(Delay::Later(later))
 }
 
-#[tactic(auto, unfolding(crate::specs::Reference::any_delay))]
-pub(crate) fn read_any_delay(reader: &mut Reader<'_>, room: u8) -> Result<Delay<Name>, Refused>
-    ensures { Reads seen (rule.any_delay room reader.old) result reader.new }
+#[tactic(auto, unfolding(crate::specs::Reference::delay))]
+pub(crate) fn read_delay(reader: &mut Reader<'_>, room: u8) -> Result<Delay<Name>, StepError>
+    ensures { Reads as_refusal (rule.delay room reader.old) result reader.new }
 {
     if reader.sees_keyword(Keyword::Immediate) {
         read_immediate(reader, room)
     } else {
-        read_plainly(reader, room)
+        read_later_delay(reader, room)
     }
 }
 
 #[tactic(auto, unfolding(crate::specs::Reference::has_immediate))]
-pub(crate) fn read_whether_immediate(reader: &mut Reader<'_>) -> Result<bool, Refused>
-    ensures { Reads seen (rule.has_immediate reader.old) result reader.new }
+pub(crate) fn read_whether_immediate(reader: &mut Reader<'_>) -> Result<bool, StepError>
+    ensures { Reads as_refusal (rule.has_immediate reader.old) result reader.new }
 {
     if !reader.sees_keyword(Keyword::Immediate) {
         return Ok(false);
@@ -103,8 +103,8 @@ pub(crate) fn read_whether_immediate(reader: &mut Reader<'_>) -> Result<bool, Re
 // ---- emissions
 
 #[tactic(auto, unfolding(crate::specs::Reference::emitted))]
-fn read_emitted(reader: &mut Reader<'_>, room: u8) -> Result<Option<ExprAt<Name>>, Refused>
-    ensures { Reads seen (rule.emitted room reader.old) result reader.new }
+fn read_emitted(reader: &mut Reader<'_>, room: u8) -> Result<Option<ExprAt<Name>>, StepError>
+    ensures { Reads as_refusal (rule.emitted room reader.old) result reader.new }
 {
     if !reader.sees_punct(Punct::LeftParen) {
         return Ok(None);
@@ -117,8 +117,8 @@ fn read_emitted(reader: &mut Reader<'_>, room: u8) -> Result<Option<ExprAt<Name>
 pub(crate) fn read_emission(
     reader: &mut Reader<'_>,
     room: u8,
-) -> Result<(NameAt<Name>, Option<ExprAt<Name>>), Refused>
-    ensures { Reads seen (rule.emission room reader.old) result reader.new }
+) -> Result<(NameAt<Name>, Option<ExprAt<Name>>), StepError>
+    ensures { Reads as_refusal (rule.emission room reader.old) result reader.new }
 {
     let signal = reader.name_at()?;
     let value = read_emitted(reader, room)?;
@@ -129,8 +129,8 @@ pub(crate) fn read_emission(
 // ---- the parts of `run` and `async`
 
 #[tactic(auto, unfolding(crate::specs::Reference::binding))]
-pub(crate) fn read_binding(reader: &mut Reader<'_>) -> Result<Binding<Name>, Refused>
-    ensures { Reads seen (rule.binding reader.old) result reader.new }
+pub(crate) fn read_binding(reader: &mut Reader<'_>) -> Result<Binding<Name>, StepError>
+    ensures { Reads as_refusal (rule.binding reader.old) result reader.new }
 {
     let left = reader.name_at()?;
     reader.punct(Punct::Equal)?;
@@ -142,8 +142,8 @@ pub(crate) fn read_binding(reader: &mut Reader<'_>) -> Result<Binding<Name>, Ref
 pub(crate) fn read_run_bindings(
     reader: &mut Reader<'_>,
     room: u8,
-) -> Result<Items<Binding<Name>>, Refused>
-    ensures { Reads seen (part.in_round rule.bindings room reader.old) result reader.new }
+) -> Result<Items<Binding<Name>>, StepError>
+    ensures { Reads as_refusal (part.in_round rule.bindings room reader.old) result reader.new }
 {
     if room == 0 {
         return Err(reader.too_deep(Punct::LeftParen));
@@ -155,8 +155,8 @@ pub(crate) fn read_run_bindings(
 }
 
 #[tactic(auto, unfolding(expression_reader::specs::Reference::in_round, grammar::specs::Parser::opened))]
-fn read_name_in_round(reader: &mut Reader<'_>, room: u8) -> Result<NameAt<Name>, Refused>
-    ensures { Reads seen (part.in_round rule.result room reader.old) result reader.new }
+fn read_name_in_round(reader: &mut Reader<'_>, room: u8) -> Result<NameAt<Name>, StepError>
+    ensures { Reads as_refusal (part.in_round rule.result room reader.old) result reader.new }
 {
     if room == 0 {
         return Err(reader.too_deep(Punct::LeftParen));
@@ -172,8 +172,8 @@ fn read_name_in_round(reader: &mut Reader<'_>, room: u8) -> Result<NameAt<Name>,
 pub(crate) fn read_async_signal(
     reader: &mut Reader<'_>,
     room: u8,
-) -> Result<Option<NameAt<Name>>, Refused>
-    ensures { Reads seen (rule.async_signal room reader.old) result reader.new }
+) -> Result<Option<NameAt<Name>>, StepError>
+    ensures { Reads as_refusal (rule.async_signal room reader.old) result reader.new }
 {
     if !reader.sees_punct(Punct::LeftParen) {
         return Ok(None);
@@ -183,8 +183,8 @@ pub(crate) fn read_async_signal(
 
 /// The text of a handler, where there is one.
 #[tactic(auto, unfolding(crate::specs::Reference::handled))]
-pub(crate) fn read_handler(reader: &mut Reader<'_>, word: Keyword) -> Result<Option<Text>, Refused>
-    ensures { Reads seen (rule.handled word reader.old) result reader.new }
+pub(crate) fn read_handler(reader: &mut Reader<'_>, word: Keyword) -> Result<Option<Text>, StepError>
+    ensures { Reads as_refusal (rule.handled word reader.old) result reader.new }
 {
     if !reader.sees_keyword(word) {
         return Ok(None);

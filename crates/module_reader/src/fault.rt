@@ -2,7 +2,7 @@
 ghost use Rattle.std.specs.Prelude.{◌≡◌};
 ghost use Rattle.module_reader.specs.Refusals as refusals;
 
-use expression_reader::fault::Refused;
+use expression_reader::fault::StepError;
 use hh_base::value::Pos;
 use module_token::fault::ReadKind;
 use thiserror::Error;
@@ -16,17 +16,17 @@ pub struct ReadFault {
 }
 
 /// A refusal as a fault of the text.
-pub(crate) fn as_fault(refused: Refused) -> ReadFault
+pub(crate) fn as_fault(refused: StepError) -> ReadFault
     ensures { result ≡ refusals.as_fault refused }
 {
     let (pos, kind) = match refused {
-        Refused::Unexpected(pos) => (pos, ReadKind::Unexpected),
-        Refused::EndOfText(pos) => (pos, ReadKind::EndOfText),
-        Refused::DeepNesting(pos) => (pos, ReadKind::DeepNesting),
-        Refused::ExprLarge(pos) => (pos, ReadKind::ExprLarge),
-        Refused::NumberLarge(pos) => (pos, ReadKind::NumberLarge),
-        Refused::BadCount(pos) => (pos, ReadKind::BadCount),
-        Refused::NoMemory => (0, ReadKind::NoMemory),
+        StepError::Unexpected(pos) => (pos, ReadKind::Unexpected),
+        StepError::EndOfText(pos) => (pos, ReadKind::EndOfText),
+        StepError::DeepNesting(pos) => (pos, ReadKind::DeepNesting),
+        StepError::ExprLarge(pos) => (pos, ReadKind::ExprLarge),
+        StepError::NumberLarge(pos) => (pos, ReadKind::NumberLarge),
+        StepError::BadCount(pos) => (pos, ReadKind::BadCount),
+        StepError::NoMemory => (0, ReadKind::NoMemory),
     };
     ReadFault {
         pos: Pos(pos),

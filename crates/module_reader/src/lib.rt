@@ -9,4 +9,4 @@ pub mod read;
 mod statements;
 #[cfg(test)]
 mod tests;
-mod tops;
+mod parts;

@@ -1,18 +1,18 @@
 //! Lists with commas between their items.
 ghost use Rattle.std.specs.Prelude.{◌≡◌};
 ghost use Rattle.grammar.specs.Parser.{Reads};
-ghost use Rattle.expression_reader.specs.Refusals.{seen};
+ghost use Rattle.expression_reader.specs.Refusals.{as_refusal};
 ghost use Rattle.expression_reader.specs.Reference as part;
 ghost use Rattle.expression_reader.specs.Reference.{Parser, Takes};
 ghost use Rattle.module_reader.specs.Reference as reference;
 
-use crate::declarations::{read_decl, read_param, read_sig, read_valued};
+use crate::declarations::{read_interface, read_parameter, read_signal, read_valued};
 use crate::delays::read_binding;
 use expression_reader::cursor::Reader;
-use expression_reader::fault::Refused;
+use expression_reader::fault::StepError;
 use hh_base::name::Name;
 use hh_base::value::Kind;
-use module_tree::source::{Binding, DeclNode, ParamNode, SigNode};
+use module_tree::source::{Binding, InterfaceNode, ParameterNode, SignalNode};
 use module_token::punct::Punct;
 use sqlite_items::Items;
 
@@ -20,36 +20,36 @@ use sqlite_items::Items;
 pub(crate) trait Listed: Drop + Sized {
     ghost rule: { Parser Self };
 
-    fn read(reader: &mut Reader<'_>) -> Result<Self, Refused>
-        ensures reads { Reads seen (rule reader.old) result reader.new }
+    fn read(reader: &mut Reader<'_>) -> Result<Self, StepError>
+        ensures reads { Reads as_refusal (rule reader.old) result reader.new }
         // An item behind a comma takes a token, so that a list ends.
         ensures takes { Takes (part.behind_comma rule) };
 }
 
-impl Listed for SigNode {
-    ghost rule = { reference.sig };
+impl Listed for SignalNode {
+    ghost rule = { reference.signal };
 
     #[tactic(auto, using(crate::proofs::Items::sig_takes))]
-    fn read(reader: &mut Reader<'_>) -> Result<SigNode, Refused> {
-        read_sig(reader)
+    fn read(reader: &mut Reader<'_>) -> Result<SignalNode, StepError> {
+        read_signal(reader)
     }
 }
 
-impl Listed for DeclNode {
-    ghost rule = { reference.decl };
+impl Listed for InterfaceNode {
+    ghost rule = { reference.interface };
 
     #[tactic(auto, using(crate::proofs::Items::decl_takes))]
-    fn read(reader: &mut Reader<'_>) -> Result<DeclNode, Refused> {
-        read_decl(reader)
+    fn read(reader: &mut Reader<'_>) -> Result<InterfaceNode, StepError> {
+        read_interface(reader)
     }
 }
 
-impl Listed for ParamNode {
-    ghost rule = { reference.param };
+impl Listed for ParameterNode {
+    ghost rule = { reference.parameter };
 
     #[tactic(auto, using(crate::proofs::Items::param_takes))]
-    fn read(reader: &mut Reader<'_>) -> Result<ParamNode, Refused> {
-        read_param(reader)
+    fn read(reader: &mut Reader<'_>) -> Result<ParameterNode, StepError> {
+        read_parameter(reader)
     }
 }
 
@@ -57,7 +57,7 @@ impl Listed for Kind {
     ghost rule = { reference.valued };
 
     #[tactic(auto, using(crate::proofs::Items::valued_takes))]
-    fn read(reader: &mut Reader<'_>) -> Result<Kind, Refused> {
+    fn read(reader: &mut Reader<'_>) -> Result<Kind, StepError> {
         read_valued(reader)
     }
 }
@@ -66,14 +66,14 @@ impl Listed for Binding<Name> {
     ghost rule = { reference.binding };
 
     #[tactic(auto, using(crate::proofs::Items::binding_takes))]
-    fn read(reader: &mut Reader<'_>) -> Result<Binding<Name>, Refused> {
+    fn read(reader: &mut Reader<'_>) -> Result<Binding<Name>, StepError> {
         read_binding(reader)
     }
 }
 
 /// An item behind its comma.
-fn read_next<T: Listed>(reader: &mut Reader<'_>) -> Result<T, Refused>
-    ensures { Reads seen (part.behind_comma T.rule reader.old) result reader.new }
+fn read_next<T: Listed>(reader: &mut Reader<'_>) -> Result<T, StepError>
+    ensures { Reads as_refusal (part.behind_comma T.rule reader.old) result reader.new }
 {
     reader.punct(Punct::Comma)?;
     T::read(reader)
@@ -81,8 +81,8 @@ fn read_next<T: Listed>(reader: &mut Reader<'_>) -> Result<T, Refused>
 
 /// One or more.
 #[tactic(auto, unfolding(expression_reader::specs::Reference::listed))]
-pub(crate) fn read_list<T: Listed>(reader: &mut Reader<'_>) -> Result<Items<T>, Refused>
-    ensures { Reads seen (part.listed T.rule reader.old) result reader.new }
+pub(crate) fn read_list<T: Listed>(reader: &mut Reader<'_>) -> Result<Items<T>, StepError>
+    ensures { Reads as_refusal (part.listed T.rule reader.old) result reader.new }
 {
     let first = T::read(reader)?;
     let mut list = reader.empty_list();
@@ -96,8 +96,8 @@ pub(crate) fn read_list<T: Listed>(reader: &mut Reader<'_>) -> Result<Items<T>, 
 
 /// The same, or none.
 #[tactic(auto, unfolding(expression_reader::specs::Reference::listed_or_none))]
-pub(crate) fn read_list_or_none<T: Listed>(reader: &mut Reader<'_>) -> Result<Items<T>, Refused>
-    ensures { Reads seen (part.listed_or_none T.rule reader.old) result reader.new }
+pub(crate) fn read_list_or_none<T: Listed>(reader: &mut Reader<'_>) -> Result<Items<T>, StepError>
+    ensures { Reads as_refusal (part.listed_or_none T.rule reader.old) result reader.new }
 {
     if reader.sees_in_round() {
         read_list(reader)

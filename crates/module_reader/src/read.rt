@@ -1,21 +1,21 @@
 //! The call that reads a module text.
 ghost use Rattle.std.specs.Prelude.{◌≡◌, ◌≢◌, ◌<◌, ◌^◌, List, All, length, IfOk, IfErr, MatchResult};
-ghost use Rattle.module_tree.specs.declared.source.Top.{Top as ATop};
+ghost use Rattle.module_tree.specs.declared.source.Part.{Part as ATop};
 ghost use Rattle.grammar.specs.Parser as parser;
 ghost use Rattle.grammar.specs.Parser.{Exact};
 ghost use Rattle.expression_reader.specs.Cursor.{IsReadable, toks};
 ghost use Rattle.module_reader.specs.Reading.{HasTree, IsFirstFault, IsByRule};
 ghost use Rattle.module_reader.specs.Reference as rule;
-ghost use Rattle.expression_reader.specs.Refusals.{seen};
+ghost use Rattle.expression_reader.specs.Refusals.{as_refusal};
 ghost use Rattle.expression_reader.specs.Trees.{Name as AName};
 
 use crate::fault::{ReadFault, as_fault};
-use crate::tops::{has_module, read_whole};
+use crate::parts::{has_module, read_whole};
 use expression_reader::cursor::Reader;
-use expression_reader::fault::Refused;
+use expression_reader::fault::StepError;
 use hh_base::name::Name;
 use hh_base::value::Pos;
-use module_tree::source::{Modules, Top};
+use module_tree::source::{Modules, Part};
 use module_token::fault::ReadKind;
 use module_token::token::Token;
 use module_token::tokens::tokens;
@@ -23,10 +23,10 @@ use sqlite_items::Items;
 use std::alloc::Global;
 
 /// The bodies, hosts and modules of a text, by its tokens.
-fn read_tokens(alloc: Global, text: &str, tokens: &[Token]) -> Result<Items<Top<Name>>, Refused>
+fn read_tokens(alloc: Global, text: &str, tokens: &[Token]) -> Result<Items<Part<Name>>, StepError>
     requires readable { All (IsReadable text.now) tokens.now }
     requires short { length text.now < 2 ^ 32 }
-    ensures { Exact seen (parser.whole (rule.tops 128) (parser.start (toks text.now tokens.now) (length text.now))) result }
+    ensures { Exact as_refusal (parser.whole (rule.parts 128) (parser.start (toks text.now tokens.now) (length text.now))) result }
 {
     let mut reader = Reader::new(alloc, text, tokens, text.len() as u32);
     read_whole(&mut reader)
@@ -59,9 +59,9 @@ pub fn read(alloc: Global, text: &str) -> Result<Modules, ReadFault>
     };
     match read_tokens(alloc, text, tokens.as_slice()) {
         Err(refused) => Err(as_fault(refused)),
-        Ok(tops) => {
-            if has_module(tops.as_slice()) {
-                Ok(Modules::new(tops))
+        Ok(parts) => {
+            if has_module(parts.as_slice()) {
+                Ok(Modules::new(parts))
             } else {
                 Err(ReadFault {
                     pos: Pos(0),

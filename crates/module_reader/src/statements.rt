@@ -3,18 +3,18 @@ ghost use Rattle.std.specs.Prelude.{◌≡◌};
 ghost use Rattle.grammar.specs.Parser as parser;
 ghost use Rattle.grammar.specs.Parser.{Reads};
 ghost use Rattle.module_tree.specs.declared.source.Statement as A;
-ghost use Rattle.expression_reader.specs.Refusals.{seen};
+ghost use Rattle.expression_reader.specs.Refusals.{as_refusal};
 ghost use Rattle.expression_reader.specs.Terminals.{is_keyword, is_in_curly};
 ghost use Rattle.module_reader.specs.Trees as tree;
 ghost use Rattle.module_reader.specs.Reference as rule;
 
 use crate::delays::{
-    read_any_delay, read_async_signal, read_emission, read_handler, read_plain_delay,
+    read_delay, read_async_signal, read_emission, read_handler, read_later,
     read_run_bindings, read_whether_immediate,
 };
 use crate::lists::read_list;
 use expression_reader::cursor::Reader;
-use expression_reader::fault::Refused;
+use expression_reader::fault::StepError;
 use expression_reader::terminal::Terminal;
 use hh_base::name::Name;
 use hh_base::value::Pos;
@@ -36,8 +36,8 @@ fn statement_at(pos: u32, what: Statement<Name>) -> StatementNode<Name>
 // ---- statements without blocks, where so many brackets may still be opened
 
 #[tactic(auto, unfolding(crate::specs::Reference::simple))]
-fn read_nothing(reader: &mut Reader<'_>) -> Result<StatementNode<Name>, Refused>
-    ensures { Reads seen (rule.simple Keyword.Nothing Statement.Nothing reader.old) result reader.new }
+fn read_nothing(reader: &mut Reader<'_>) -> Result<StatementNode<Name>, StepError>
+    ensures { Reads as_refusal (rule.simple Keyword.Nothing Statement.Nothing reader.old) result reader.new }
 {
     let pos = reader.keyword(Keyword::Nothing)?;
     reader.punct(Punct::Semicolon)?;
@@ -45,8 +45,8 @@ fn read_nothing(reader: &mut Reader<'_>) -> Result<StatementNode<Name>, Refused>
 }
 
 #[tactic(auto, unfolding(crate::specs::Reference::simple))]
-fn read_pause(reader: &mut Reader<'_>) -> Result<StatementNode<Name>, Refused>
-    ensures { Reads seen (rule.simple Keyword.Pause Statement.Pause reader.old) result reader.new }
+fn read_pause(reader: &mut Reader<'_>) -> Result<StatementNode<Name>, StepError>
+    ensures { Reads as_refusal (rule.simple Keyword.Pause Statement.Pause reader.old) result reader.new }
 {
     let pos = reader.keyword(Keyword::Pause)?;
     reader.punct(Punct::Semicolon)?;
@@ -54,8 +54,8 @@ fn read_pause(reader: &mut Reader<'_>) -> Result<StatementNode<Name>, Refused>
 }
 
 #[tactic(auto, unfolding(crate::specs::Reference::simple))]
-fn read_halt(reader: &mut Reader<'_>) -> Result<StatementNode<Name>, Refused>
-    ensures { Reads seen (rule.simple Keyword.Halt Statement.Halt reader.old) result reader.new }
+fn read_halt(reader: &mut Reader<'_>) -> Result<StatementNode<Name>, StepError>
+    ensures { Reads as_refusal (rule.simple Keyword.Halt Statement.Halt reader.old) result reader.new }
 {
     let pos = reader.keyword(Keyword::Halt)?;
     reader.punct(Punct::Semicolon)?;
@@ -63,8 +63,8 @@ fn read_halt(reader: &mut Reader<'_>) -> Result<StatementNode<Name>, Refused>
 }
 
 #[tactic(auto, unfolding(crate::specs::Reference::emit))]
-fn read_emit(reader: &mut Reader<'_>, room: u8) -> Result<StatementNode<Name>, Refused>
-    ensures { Reads seen (rule.emit room reader.old) result reader.new }
+fn read_emit(reader: &mut Reader<'_>, room: u8) -> Result<StatementNode<Name>, StepError>
+    ensures { Reads as_refusal (rule.emit room reader.old) result reader.new }
 {
     let pos = reader.keyword(Keyword::Emit)?;
     let (signal, value) = read_emission(reader, room)?;
@@ -72,8 +72,8 @@ fn read_emit(reader: &mut Reader<'_>, room: u8) -> Result<StatementNode<Name>, R
 }
 
 #[tactic(auto, unfolding(crate::specs::Reference::sustain))]
-fn read_sustain(reader: &mut Reader<'_>, room: u8) -> Result<StatementNode<Name>, Refused>
-    ensures { Reads seen (rule.sustain room reader.old) result reader.new }
+fn read_sustain(reader: &mut Reader<'_>, room: u8) -> Result<StatementNode<Name>, StepError>
+    ensures { Reads as_refusal (rule.sustain room reader.old) result reader.new }
 {
     let pos = reader.keyword(Keyword::Sustain)?;
     let (signal, value) = read_emission(reader, room)?;
@@ -81,18 +81,18 @@ fn read_sustain(reader: &mut Reader<'_>, room: u8) -> Result<StatementNode<Name>
 }
 
 #[tactic(auto, unfolding(crate::specs::Reference::await_delay))]
-fn read_await_delay(reader: &mut Reader<'_>, room: u8) -> Result<StatementNode<Name>, Refused>
-    ensures { Reads seen (rule.await_delay room reader.old) result reader.new }
+fn read_await_delay(reader: &mut Reader<'_>, room: u8) -> Result<StatementNode<Name>, StepError>
+    ensures { Reads as_refusal (rule.await_delay room reader.old) result reader.new }
 {
     let pos = reader.keyword(Keyword::Await)?;
-    let delay = read_any_delay(reader, room)?;
+    let delay = read_delay(reader, room)?;
     reader.punct(Punct::Semicolon)?;
     Ok(statement_at(pos, Statement::Await(delay)))
 }
 
 #[tactic(auto, unfolding(crate::specs::Reference::break_out))]
-fn read_break_out(reader: &mut Reader<'_>) -> Result<StatementNode<Name>, Refused>
-    ensures { Reads seen (rule.break_out reader.old) result reader.new }
+fn read_break_out(reader: &mut Reader<'_>) -> Result<StatementNode<Name>, StepError>
+    ensures { Reads as_refusal (rule.break_out reader.old) result reader.new }
 {
     let pos = reader.keyword(Keyword::Break)?;
     let trap = reader.name_at()?;
@@ -101,8 +101,8 @@ fn read_break_out(reader: &mut Reader<'_>) -> Result<StatementNode<Name>, Refuse
 }
 
 #[tactic(auto, unfolding(crate::specs::Reference::run))]
-fn read_run(reader: &mut Reader<'_>, room: u8) -> Result<StatementNode<Name>, Refused>
-    ensures { Reads seen (rule.run room reader.old) result reader.new }
+fn read_run(reader: &mut Reader<'_>, room: u8) -> Result<StatementNode<Name>, StepError>
+    ensures { Reads as_refusal (rule.run room reader.old) result reader.new }
 {
     let pos = reader.keyword(Keyword::Run)?;
     let module = reader.name_at()?;
@@ -112,8 +112,8 @@ fn read_run(reader: &mut Reader<'_>, room: u8) -> Result<StatementNode<Name>, Re
 }
 
 #[tactic(auto, unfolding(crate::specs::Reference::async_call))]
-fn read_async_call(reader: &mut Reader<'_>, room: u8) -> Result<StatementNode<Name>, Refused>
-    ensures { Reads seen (rule.async_call room reader.old) result reader.new }
+fn read_async_call(reader: &mut Reader<'_>, room: u8) -> Result<StatementNode<Name>, StepError>
+    ensures { Reads as_refusal (rule.async_call room reader.old) result reader.new }
 {
     let pos = reader.keyword(Keyword::Async)?;
     let signal = read_async_signal(reader, room)?;
@@ -139,8 +139,8 @@ fn read_async_call(reader: &mut Reader<'_>, room: u8) -> Result<StatementNode<Na
 
 #[cycle(statement)]
 #[tactic(auto, unfolding(crate::specs::Reference::otherwise))]
-fn read_behind_else(reader: &mut Reader<'_>, room: u8) -> Result<Option<BlockNode<Name>>, Refused>
-    ensures { Reads seen (rule.otherwise (rule.block room) reader.old) result reader.new }
+fn read_behind_else(reader: &mut Reader<'_>, room: u8) -> Result<Option<BlockNode<Name>>, StepError>
+    ensures { Reads as_refusal (rule.otherwise (rule.block room) reader.old) result reader.new }
 {
     if !reader.sees_keyword(Keyword::Else) {
         return Ok(None);
@@ -150,9 +150,9 @@ fn read_behind_else(reader: &mut Reader<'_>, room: u8) -> Result<Option<BlockNod
 }
 
 #[cycle(statement)]
-#[tactic(auto, unfolding(crate::specs::Reference::choice))]
-fn read_choice(reader: &mut Reader<'_>, room: u8) -> Result<StatementNode<Name>, Refused>
-    ensures { Reads seen (rule.choice (rule.block room) room reader.old) result reader.new }
+#[tactic(auto, unfolding(crate::specs::Reference::if_else))]
+fn read_if_else(reader: &mut Reader<'_>, room: u8) -> Result<StatementNode<Name>, StepError>
+    ensures { Reads as_refusal (rule.if_else (rule.block room) room reader.old) result reader.new }
 {
     let pos = reader.keyword(Keyword::If)?;
     let test = reader.tested(room)?;
@@ -163,8 +163,8 @@ fn read_choice(reader: &mut Reader<'_>, room: u8) -> Result<StatementNode<Name>,
 
 #[cycle(statement)]
 #[tactic(auto, unfolding(crate::specs::Reference::loop_block))]
-fn read_loop(reader: &mut Reader<'_>, room: u8) -> Result<StatementNode<Name>, Refused>
-    ensures { Reads seen (rule.loop_block (rule.block room) reader.old) result reader.new }
+fn read_loop(reader: &mut Reader<'_>, room: u8) -> Result<StatementNode<Name>, StepError>
+    ensures { Reads as_refusal (rule.loop_block (rule.block room) reader.old) result reader.new }
 {
     let pos = reader.keyword(Keyword::Loop)?;
     let block = read_block(reader, room)?;
@@ -173,17 +173,17 @@ fn read_loop(reader: &mut Reader<'_>, room: u8) -> Result<StatementNode<Name>, R
 
 #[cycle(statement)]
 #[tactic(auto, unfolding(crate::specs::Reference::behind_par))]
-fn read_behind_par(reader: &mut Reader<'_>, room: u8) -> Result<BlockNode<Name>, Refused>
-    ensures { Reads seen (rule.behind_par (rule.block room) reader.old) result reader.new }
+fn read_behind_par(reader: &mut Reader<'_>, room: u8) -> Result<BlockNode<Name>, StepError>
+    ensures { Reads as_refusal (rule.behind_par (rule.block room) reader.old) result reader.new }
 {
     reader.keyword(Keyword::Par)?;
     read_block(reader, room)
 }
 
 #[cycle(statement)]
-#[tactic(auto, unfolding(crate::specs::Reference::branches_of))]
-fn read_fork_branches(reader: &mut Reader<'_>, room: u8) -> Result<Items<BlockNode<Name>>, Refused>
-    ensures { Reads seen (rule.branches_of (rule.block room) reader.old) result reader.new }
+#[tactic(auto, unfolding(crate::specs::Reference::par_blocks))]
+fn read_par_blocks(reader: &mut Reader<'_>, room: u8) -> Result<Items<BlockNode<Name>>, StepError>
+    ensures { Reads as_refusal (rule.par_blocks (rule.block room) reader.old) result reader.new }
 {
     let first = read_block(reader, room)?;
     let mut list = reader.empty_list();
@@ -196,65 +196,65 @@ fn read_fork_branches(reader: &mut Reader<'_>, room: u8) -> Result<Items<BlockNo
 }
 
 #[cycle(statement)]
-#[tactic(auto, unfolding(crate::specs::Reference::fork, crate::specs::Reference::branches_of))]
-fn read_fork(reader: &mut Reader<'_>, room: u8) -> Result<StatementNode<Name>, Refused>
-    ensures { Reads seen (rule.fork (rule.block room) reader.old) result reader.new }
+#[tactic(auto, unfolding(crate::specs::Reference::fork, crate::specs::Reference::par_blocks))]
+fn read_fork(reader: &mut Reader<'_>, room: u8) -> Result<StatementNode<Name>, StepError>
+    ensures { Reads as_refusal (rule.fork (rule.block room) reader.old) result reader.new }
 {
     let pos = reader.keyword(Keyword::Fork)?;
-    let branches = read_fork_branches(reader, room)?;
+    let branches = read_par_blocks(reader, room)?;
     Ok(statement_at(pos, Statement::Fork(branches)))
 }
 
 #[cycle(statement)]
 #[tactic(auto, unfolding(crate::specs::Reference::every))]
-fn read_every(reader: &mut Reader<'_>, room: u8) -> Result<StatementNode<Name>, Refused>
-    ensures { Reads seen (rule.every (rule.block room) room reader.old) result reader.new }
+fn read_every(reader: &mut Reader<'_>, room: u8) -> Result<StatementNode<Name>, StepError>
+    ensures { Reads as_refusal (rule.every (rule.block room) room reader.old) result reader.new }
 {
     let pos = reader.keyword(Keyword::Every)?;
-    let delay = read_any_delay(reader, room)?;
+    let delay = read_delay(reader, room)?;
     let block = read_block(reader, room)?;
     Ok(statement_at(pos, Statement::Every(delay, block)))
 }
 
 #[cycle(statement)]
 #[tactic(auto, unfolding(crate::specs::Reference::do_every))]
-fn read_do_every(reader: &mut Reader<'_>, room: u8) -> Result<StatementNode<Name>, Refused>
-    ensures { Reads seen (rule.do_every (rule.block room) room reader.old) result reader.new }
+fn read_do_every(reader: &mut Reader<'_>, room: u8) -> Result<StatementNode<Name>, StepError>
+    ensures { Reads as_refusal (rule.do_every (rule.block room) room reader.old) result reader.new }
 {
     let pos = reader.keyword(Keyword::Do)?;
     let block = read_block(reader, room)?;
     reader.keyword(Keyword::Every)?;
-    let delay = read_plain_delay(reader, room)?;
+    let delay = read_later(reader, room)?;
     reader.punct(Punct::Semicolon)?;
     Ok(statement_at(pos, Statement::DoEvery(block, delay)))
 }
 
 #[cycle(statement)]
 #[tactic(auto, unfolding(crate::specs::Reference::abort))]
-fn read_abort(reader: &mut Reader<'_>, room: u8) -> Result<StatementNode<Name>, Refused>
-    ensures { Reads seen (rule.abort (rule.block room) room reader.old) result reader.new }
+fn read_abort(reader: &mut Reader<'_>, room: u8) -> Result<StatementNode<Name>, StepError>
+    ensures { Reads as_refusal (rule.abort (rule.block room) room reader.old) result reader.new }
 {
     let pos = reader.keyword(Keyword::Abort)?;
-    let delay = read_any_delay(reader, room)?;
+    let delay = read_delay(reader, room)?;
     let block = read_block(reader, room)?;
     Ok(statement_at(pos, Statement::Abort(delay, block)))
 }
 
 #[cycle(statement)]
 #[tactic(auto, unfolding(crate::specs::Reference::weak_abort))]
-fn read_weak_abort(reader: &mut Reader<'_>, room: u8) -> Result<StatementNode<Name>, Refused>
-    ensures { Reads seen (rule.weak_abort (rule.block room) room reader.old) result reader.new }
+fn read_weak_abort(reader: &mut Reader<'_>, room: u8) -> Result<StatementNode<Name>, StepError>
+    ensures { Reads as_refusal (rule.weak_abort (rule.block room) room reader.old) result reader.new }
 {
     let pos = reader.keyword(Keyword::WeakAbort)?;
-    let delay = read_any_delay(reader, room)?;
+    let delay = read_delay(reader, room)?;
     let block = read_block(reader, room)?;
     Ok(statement_at(pos, Statement::WeakAbort(delay, block)))
 }
 
 #[cycle(statement)]
 #[tactic(auto, unfolding(crate::specs::Reference::suspend))]
-fn read_suspend(reader: &mut Reader<'_>, room: u8) -> Result<StatementNode<Name>, Refused>
-    ensures { Reads seen (rule.suspend (rule.block room) room reader.old) result reader.new }
+fn read_suspend(reader: &mut Reader<'_>, room: u8) -> Result<StatementNode<Name>, StepError>
+    ensures { Reads as_refusal (rule.suspend (rule.block room) room reader.old) result reader.new }
 {
     let pos = reader.keyword(Keyword::Suspend)?;
     let immediate = read_whether_immediate(reader)?;
@@ -265,19 +265,19 @@ fn read_suspend(reader: &mut Reader<'_>, room: u8) -> Result<StatementNode<Name>
 
 #[cycle(statement)]
 #[tactic(auto, unfolding(crate::specs::Reference::local))]
-fn read_local(reader: &mut Reader<'_>, room: u8) -> Result<StatementNode<Name>, Refused>
-    ensures { Reads seen (rule.local (rule.block room) reader.old) result reader.new }
+fn read_local(reader: &mut Reader<'_>, room: u8) -> Result<StatementNode<Name>, StepError>
+    ensures { Reads as_refusal (rule.local (rule.block room) reader.old) result reader.new }
 {
     let pos = reader.keyword(Keyword::Signal)?;
-    let sigs = read_list(reader)?;
+    let signals = read_list(reader)?;
     let block = read_block(reader, room)?;
-    Ok(statement_at(pos, Statement::Signal(sigs, block)))
+    Ok(statement_at(pos, Statement::Signal(signals, block)))
 }
 
 #[cycle(statement)]
 #[tactic(auto, unfolding(crate::specs::Reference::trap))]
-fn read_trap(reader: &mut Reader<'_>, room: u8) -> Result<StatementNode<Name>, Refused>
-    ensures { Reads seen (rule.trap (rule.block room) reader.old) result reader.new }
+fn read_trap(reader: &mut Reader<'_>, room: u8) -> Result<StatementNode<Name>, StepError>
+    ensures { Reads as_refusal (rule.trap (rule.block room) reader.old) result reader.new }
 {
     let pos = reader.keyword(Keyword::Trap)?;
     let (_, name) = reader.name()?;
@@ -288,8 +288,8 @@ fn read_trap(reader: &mut Reader<'_>, room: u8) -> Result<StatementNode<Name>, R
 /// A block that is a statement stands where the block does.
 #[cycle(statement)]
 #[tactic(auto, unfolding(crate::specs::Reference::nested_block))]
-fn read_nested(reader: &mut Reader<'_>, room: u8) -> Result<StatementNode<Name>, Refused>
-    ensures { Reads seen (rule.nested_block (rule.block room) reader.old) result reader.new }
+fn read_nested(reader: &mut Reader<'_>, room: u8) -> Result<StatementNode<Name>, StepError>
+    ensures { Reads as_refusal (rule.nested_block (rule.block room) reader.old) result reader.new }
 {
     let block = read_block(reader, room)?;
     Ok(StatementNode {
@@ -303,8 +303,8 @@ fn read_statement_by(
     reader: &mut Reader<'_>,
     word: Keyword,
     room: u8,
-) -> Result<StatementNode<Name>, Refused>
-    ensures { Reads seen (rule.statement_by (rule.block room) room (Some (Terminal.Keyword word)) reader.old) result reader.new }
+) -> Result<StatementNode<Name>, StepError>
+    ensures { Reads as_refusal (rule.statement_by (rule.block room) room (Some (Terminal.Keyword word)) reader.old) result reader.new }
 {
     match word {
         Keyword::Nothing => read_nothing(reader),
@@ -312,7 +312,7 @@ fn read_statement_by(
         Keyword::Halt => read_halt(reader),
         Keyword::Emit => read_emit(reader, room),
         Keyword::Sustain => read_sustain(reader, room),
-        Keyword::If => read_choice(reader, room),
+        Keyword::If => read_if_else(reader, room),
         Keyword::Loop => read_loop(reader, room),
         Keyword::Fork => read_fork(reader, room),
         Keyword::Await => read_await_delay(reader, room),
@@ -332,8 +332,8 @@ fn read_statement_by(
 
 #[cycle(statement)]
 #[tactic(auto, unfolding(crate::specs::Reference::statement))]
-fn read_statement(reader: &mut Reader<'_>, room: u8) -> Result<StatementNode<Name>, Refused>
-    ensures { Reads seen (rule.statement (rule.block room) room reader.old) result reader.new }
+fn read_statement(reader: &mut Reader<'_>, room: u8) -> Result<StatementNode<Name>, StepError>
+    ensures { Reads as_refusal (rule.statement (rule.block room) room reader.old) result reader.new }
 {
     match reader.kind() {
         Some(Terminal::Keyword(word)) => read_statement_by(reader, word, room),
@@ -342,8 +342,8 @@ fn read_statement(reader: &mut Reader<'_>, room: u8) -> Result<StatementNode<Nam
 }
 
 #[cycle(statement)]
-fn read_statements(reader: &mut Reader<'_>, room: u8) -> Result<Items<StatementNode<Name>>, Refused>
-    ensures { Reads seen (parser.many is_in_curly (rule.statement (rule.block room) room) reader.old) result reader.new }
+fn read_statements(reader: &mut Reader<'_>, room: u8) -> Result<Items<StatementNode<Name>>, StepError>
+    ensures { Reads as_refusal (parser.many is_in_curly (rule.statement (rule.block room) room) reader.old) result reader.new }
 {
     let mut list = reader.empty_list();
     'each: while reader.sees_in_curly() {
@@ -356,8 +356,8 @@ fn read_statements(reader: &mut Reader<'_>, room: u8) -> Result<Items<StatementN
 /// A block, where so many brackets may still be opened.
 #[cycle(statement)]
 #[tactic(auto, unfolding(crate::specs::Reference::block, grammar::specs::Parser::opened))]
-pub(crate) fn read_block(reader: &mut Reader<'_>, room: u8) -> Result<BlockNode<Name>, Refused>
-    ensures { Reads seen (rule.block room reader.old) result reader.new }
+pub(crate) fn read_block(reader: &mut Reader<'_>, room: u8) -> Result<BlockNode<Name>, StepError>
+    ensures { Reads as_refusal (rule.block room reader.old) result reader.new }
 {
     if room == 0 {
         return Err(reader.too_deep(Punct::LeftBrace));

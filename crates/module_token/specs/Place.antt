@@ -3,13 +3,13 @@ use Rattle.std.specs.Prelude.{ℕ, ◌<◌, ◌≤◌, List, [], ◌∷◌, map,
 use Rattle.std.specs.Str.{IsCharBoundary}
 use Rattle.module_token.specs.declared.token.Token.{Token}
 use Rattle.module_token.specs.Token.{IsToken}
-use Rattle.module_token.specs.Tokens.{Tok}
+use Rattle.module_token.specs.Tokens.{TextToken}
 
 -- the token with its bytes
-abbrev pub tok : List ℕ → Token → Tok
+abbrev pub tok : List ℕ → Token → TextToken
 tok text t = record { pos = t.start; what = t.what; text = slice_range text t.start t.«end» }
 
-abbrev pub toks : List ℕ → List Token → List Tok
+abbrev pub toks : List ℕ → List Token → List TextToken
 toks text tokens = map (tok text) tokens
 
 -- the token has bytes of the text, which spell it, and cuts no character

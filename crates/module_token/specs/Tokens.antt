@@ -8,7 +8,7 @@ use Rattle.module_token.specs.Gap.{IsGap}
 use Rattle.module_token.specs.Token.{IsToken}
 
 -- a token of a text: the number of bytes before it, what it is, and its bytes
-pub record Tok : Type 0 where
+pub record TextToken : Type 0 where
   pub pos : ℕ
   pub what : TokenKind
   pub text : List ℕ
@@ -17,14 +17,14 @@ abbrev pub fault_at : ℕ → ReadKind → TokenFault
 fault_at pos kind = record { pos = record { 0 = pos }; kind = kind }
 
 -- what is read of a text that stands behind so many bytes: its tokens up to its end, or up to a fault
-pub data Reads : ℕ → List ℕ → List Tok → Option TokenFault → Type 0 where
-  ended : {at : ℕ} → Reads at [] [] None
-  refused : {at : ℕ} {text : List ℕ} (n : ℕ) (kind : ReadKind) → IsFault kind text n → Reads at text [] (Some (fault_at (at + n) kind))
-  passed : {at : ℕ} (gap rest : List ℕ) {tokens : List Tok} {end : Option TokenFault} → IsGap gap rest → Reads (at + length gap) rest tokens end → Reads at (gap ++ rest) tokens end
-  taken : {at : ℕ} (text rest : List ℕ) (what : TokenKind) {tokens : List Tok} {end : Option TokenFault} → IsToken text what rest → Reads (at + length text) rest tokens end → Reads at (text ++ rest) (record { pos = at; what = what; text = text } ∷ tokens) end
+pub data Tokenizes : ℕ → List ℕ → List TextToken → Option TokenFault → Type 0 where
+  ended : {at : ℕ} → Tokenizes at [] [] None
+  refused : {at : ℕ} {text : List ℕ} (n : ℕ) (kind : ReadKind) → IsFault kind text n → Tokenizes at text [] (Some (fault_at (at + n) kind))
+  passed : {at : ℕ} (gap rest : List ℕ) {tokens : List TextToken} {end : Option TokenFault} → IsGap gap rest → Tokenizes (at + length gap) rest tokens end → Tokenizes at (gap ++ rest) tokens end
+  taken : {at : ℕ} (text rest : List ℕ) (what : TokenKind) {tokens : List TextToken} {end : Option TokenFault} → IsToken text what rest → Tokenizes (at + length text) rest tokens end → Tokenizes at (text ++ rest) (record { pos = at; what = what; text = text } ∷ tokens) end
 
-abbrev pub Tokens : List ℕ → List Tok → Type 0
-Tokens text tokens = Reads 0 text tokens None
+abbrev pub HasTokens : List ℕ → List TextToken → Type 0
+HasTokens text tokens = Tokenizes 0 text tokens None
 
 abbrev pub FirstTokenFault : List ℕ → TokenFault → Type 0
-FirstTokenFault text fault = (tokens : List Tok) × Reads 0 text tokens (Some fault)
+FirstTokenFault text fault = (tokens : List TextToken) × Tokenizes 0 text tokens (Some fault)

@@ -5,7 +5,7 @@ ghost use Rattle.hh_base.specs.Text.{IsText};
 ghost use Rattle.hh_base.specs.declared.value.Value.TheVariants as value_kind;
 ghost use Rattle.module_token.specs.Place.{InText, Rising, toks};
 ghost use Rattle.module_token.specs.Value.{quoted_value};
-ghost use Rattle.module_token.specs.Tokens.{FirstTokenFault, Tok, Tokens};
+ghost use Rattle.module_token.specs.Tokens.{FirstTokenFault, TextToken, HasTokens};
 ghost use Rattle.module_token.specs.declared.token.TokenKind.TheVariants as token_kind;
 ghost use Rattle.module_token.specs.declared.fault.TokenFault.{TokenFault as AFault};
 
@@ -54,8 +54,8 @@ pub fn unquote(alloc: Global, text: &str, token: Token) -> Result<Text, NoMemory
 /// ran out. Takes time in proportion to the text, and copies none of it.
 pub fn tokens(alloc: Global, text: &str) -> Result<Vec<Token>, TokenFault>
     requires { length text.now < 2 ^ 32 }
-    ensures found { IfOk result (λ ts. Tokens text.now (toks text.now ts.items)) }
-    ensures only { (ts : List Tok) → Tokens text.now ts
+    ensures found { IfOk result (λ ts. HasTokens text.now (toks text.now ts.items)) }
+    ensures only { (ts : List TextToken) → HasTokens text.now ts
         → MatchResult result (λ found. toks text.now found.items ≡ ts) (λ e. e.kind ≡ ReadKind.NoMemory) }
     ensures fault { IfErr result (λ e. e.kind ≢ ReadKind.NoMemory → FirstTokenFault text.now e) }
     ensures refused { (e : AFault) → FirstTokenFault text.now e

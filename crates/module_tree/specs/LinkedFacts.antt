@@ -15,14 +15,14 @@ use Rattle.host_expr.specs.Kinds.{kind_of_expression}
 use Rattle.host_expr.specs.Measures.{leaves_and_operators}
 use Rattle.module_tree.specs.declared.source.NameAt.{NameAt}
 use Rattle.module_tree.specs.declared.source.ExprAt.{ExprAt}
-use Rattle.module_tree.specs.declared.source.SigNode.{SigNode}
-use Rattle.module_tree.specs.declared.source.DeclNode.{DeclNode}
-use Rattle.module_tree.specs.declared.source.ParamNode.{ParamNode}
+use Rattle.module_tree.specs.declared.source.SignalNode.{SignalNode}
+use Rattle.module_tree.specs.declared.source.InterfaceNode.{InterfaceNode}
+use Rattle.module_tree.specs.declared.source.ParameterNode.{ParameterNode}
 use Rattle.module_tree.specs.declared.source.Binding.{Binding}
 use Rattle.module_tree.specs.declared.source.AsyncNode.{AsyncNode}
 use Rattle.module_tree.specs.declared.source.ModuleNode.{ModuleNode}
-use Rattle.module_tree.specs.declared.source.Top.{Top}
-use Rattle.module_tree.specs.declared.source.Top.TheVariants as top
+use Rattle.module_tree.specs.declared.source.Part.{Part}
+use Rattle.module_tree.specs.declared.source.Part.TheVariants as top
 use Rattle.module_tree.specs.Scopes.{Signal, InScope, signal_at, trap_at}
 use Rattle.module_tree.specs.Parts.{Part, Test, Times, Emission, Locals, Exit, Call, Start, Placed, parts_of, expressions_of, signals_named, parameters_named}
 use Rattle.module_tree.specs.Callables.{Signature, modules_of, signatures_of, interfaces_of}
@@ -31,24 +31,24 @@ use Rattle.module_tree.specs.Callables.{Signature, modules_of, signatures_of, in
 -- kinds of the signals of the part's own module, all by their places
 
 pub record Known : Type 0 where
-  pub interfaces : List (List DeclNode)
+  pub interfaces : List (List InterfaceNode)
   pub signatures : List Signature
   pub kinds : List Kind
 
-abbrev pub locals_of : {R : Type 0} → Part R → List SigNode
-locals_of (Locals sigs) = sigs
+abbrev pub locals_of : {R : Type 0} → Part R → List SignalNode
+locals_of (Locals signals) = signals
 locals_of _ = []
 
 -- the signals of a module by their places: its interface, and then its local ones in the order of the text
-abbrev pub sigs_of : {R : Type 0} → ModuleNode R → List SigNode
-sigs_of {R} m = map (λ (d : DeclNode). d.sig) m.decls ++ flat_map (λ (p : Placed R). locals_of p.part) (parts_of m)
+abbrev pub sigs_of : {R : Type 0} → ModuleNode R → List SignalNode
+sigs_of {R} m = map (λ (d : InterfaceNode). d.signal) m.interface ++ flat_map (λ (p : Placed R). locals_of p.part) (parts_of m)
 
-abbrev pub known_in : {R : Type 0} → List (Top R) → ModuleNode R → Known
-known_in tops m = record { interfaces = interfaces_of tops; signatures = signatures_of tops; kinds = map (λ (s : SigNode). s.kind) (sigs_of m) }
+abbrev pub known_in : {R : Type 0} → List (Part R) → ModuleNode R → Known
+known_in parts m = record { interfaces = interfaces_of parts; signatures = signatures_of parts; kinds = map (λ (s : SignalNode). s.kind) (sigs_of m) }
 
 -- what holds of each part of each module
-abbrev pub in_each_part : (Known → Placed ℕ → Bool) → List (Top ℕ) → Bool
-in_each_part test tops = list_all (λ (m : ModuleNode ℕ). list_all (test (known_in tops m)) (parts_of m)) (modules_of tops)
+abbrev pub in_each_part : (Known → Placed ℕ → Bool) → List (Part ℕ) → Bool
+in_each_part test parts = list_all (λ (m : ModuleNode ℕ). list_all (test (known_in parts m)) (parts_of m)) (modules_of parts)
 
 -- ---- places
 
@@ -97,7 +97,7 @@ combine_fits k None = true
 combine_fits k (Some w) = is_kind k (Some (kind_of_word w))
 
 -- the first value and the combine word are of the signal's kind
-abbrev pub sig_fits : SigNode → Bool
+abbrev pub sig_fits : SignalNode → Bool
 sig_fits s = first_fits s.kind s.first && combine_fits s.kind s.combine
 
 -- a value exactly where the signal is valued, and of its kind
@@ -120,17 +120,17 @@ result_fits kinds k (Some n) = is_kind k (slice_get kinds n.name)
 
 abbrev pub start_fits : List Kind → AsyncNode ℕ → Option Signature → Bool
 start_fits kinds a None = false
-start_fits kinds a (Some s) = arguments_fit kinds s.params a.args && result_fits kinds s.answer a.signal
+start_fits kinds a (Some s) = arguments_fit kinds s.parameters a.args && result_fits kinds s.answer a.signal
 
 -- one binding for each signal of the interface, in its order, which passes the test
-abbrev pub each_binding : (Binding ℕ → DeclNode → Bool) → List (Binding ℕ) → List DeclNode → Bool
+abbrev pub each_binding : (Binding ℕ → InterfaceNode → Bool) → List (Binding ℕ) → List InterfaceNode → Bool
 each_binding test [] [] = true
 each_binding test (b ∷ bs) (d ∷ ds) = test b d && each_binding test bs ds
 each_binding test _ _ = false
 
-abbrev pub each_bound : (Binding ℕ → DeclNode → Bool) → List (Binding ℕ) → Option (List DeclNode) → Bool
+abbrev pub each_bound : (Binding ℕ → InterfaceNode → Bool) → List (Binding ℕ) → Option (List InterfaceNode) → Bool
 each_bound test bindings None = false
-each_bound test bindings (Some decls) = each_binding test bindings decls
+each_bound test bindings (Some interface) = each_binding test bindings interface
 
 -- kinds fit: a test is `bool`, and an emission, a first value, a combine word, an argument, a result and a bound signal
 -- have the kind of their place
@@ -138,16 +138,16 @@ abbrev pub kinds_fit : Known → Part ℕ → Bool
 kinds_fit known (Test x) = has_kind known.kinds [] kind.Bool x
 kinds_fit known (Emission n value) = emission_fits known.kinds (slice_get known.kinds n.name) value
 kinds_fit known (Times n) = true
-kinds_fit known (Locals sigs) = list_all sig_fits sigs
+kinds_fit known (Locals signals) = list_all sig_fits signals
 kinds_fit known (Exit t) = true
 kinds_fit known (Call callee bindings) =
-    each_bound (λ b d. is_kind d.sig.kind (slice_get known.kinds b.right.name)) bindings (slice_get known.interfaces callee.name)
+    each_bound (λ b d. is_kind d.signal.kind (slice_get known.kinds b.right.name)) bindings (slice_get known.interfaces callee.name)
 kinds_fit known (Start a) = start_fits known.kinds a (slice_get known.signatures a.body.name)
 
 -- the kinds of a declaration fit: of an interface, or of a body's expression over its parameters
-abbrev pub declaration_fits : Top ℕ → Bool
-declaration_fits (top.Module m) = list_all (λ (d : DeclNode). sig_fits d.sig) m.decls
-declaration_fits (top.Body b) = has_kind [] (map (λ (p : ParamNode). p.kind) b.params) b.answer b.expr
+abbrev pub declaration_fits : Part ℕ → Bool
+declaration_fits (top.Module m) = list_all (λ (d : InterfaceNode). sig_fits d.signal) m.interface
+declaration_fits (top.Body b) = has_kind [] (map (λ (p : ParameterNode). p.kind) b.parameters) b.answer b.expr
 declaration_fits (top.Host h) = true
 
 -- ---- inputs
@@ -193,19 +193,19 @@ abbrev pub names_differ : List (List ℕ) → Bool
 names_differ [] = true
 names_differ (n ∷ ns) = not (list_any (bytes_eq n) ns) && names_differ ns
 
-abbrev pub declares_once : Top ℕ → Bool
-declares_once (top.Module m) = names_differ (map (λ (d : DeclNode). d.sig.name) m.decls)
-declares_once (top.Body b) = names_differ (map (λ (p : ParamNode). p.name) b.params)
+abbrev pub declares_once : Part ℕ → Bool
+declares_once (top.Module m) = names_differ (map (λ (d : InterfaceNode). d.signal.name) m.interface)
+declares_once (top.Body b) = names_differ (map (λ (p : ParameterNode). p.name) b.parameters)
 declares_once (top.Host h) = true
 
 abbrev pub locals_differ : Part ℕ → Bool
-locals_differ (Locals sigs) = names_differ (map (λ (s : SigNode). s.name) sigs)
+locals_differ (Locals signals) = names_differ (map (λ (s : SignalNode). s.name) signals)
 locals_differ _ = true
 
 -- no name stands twice among modules, among bodies and hosts, in an interface, in a `signal` list or in a parameter list
-abbrev pub all_names_differ : List (Top ℕ) → Bool
-all_names_differ tops =
-    names_differ (map (λ (m : ModuleNode ℕ). m.name) (modules_of tops)) && names_differ (map (λ (s : Signature). s.name) (signatures_of tops)) && list_all declares_once tops && in_each_part (λ known p. locals_differ p.part) tops
+abbrev pub all_names_differ : List (Part ℕ) → Bool
+all_names_differ parts =
+    names_differ (map (λ (m : ModuleNode ℕ). m.name) (modules_of parts)) && names_differ (map (λ (s : Signature). s.name) (signatures_of parts)) && list_all declares_once parts && in_each_part (λ known p. locals_differ p.part) parts
 
 -- ---- limits
 
@@ -222,29 +222,29 @@ abbrev pub is_limited : Part ℕ → Bool
 is_limited part = counts part && list_all is_small (expressions_of part)
 
 -- parameters and the answers of bodies are valued, and interface signals have a direction of an interface
-abbrev pub is_formed : Top ℕ → Bool
-is_formed (top.Module m) = list_all (λ (d : DeclNode). is_interface d.dir) m.decls
-is_formed (top.Body b) = list_all (λ (p : ParamNode). is_valued p.kind) b.params && is_valued b.answer && is_small b.expr
-is_formed (top.Host h) = list_all is_valued h.params
+abbrev pub is_formed : Part ℕ → Bool
+is_formed (top.Module m) = list_all (λ (d : InterfaceNode). is_interface d.dir) m.interface
+is_formed (top.Body b) = list_all (λ (p : ParameterNode). is_valued p.kind) b.parameters && is_valued b.answer && is_small b.expr
+is_formed (top.Host h) = list_all is_valued h.parameters
 
 -- ---- the whole
 
-pub record IsLinked (tops : List (Top ℕ)) : Type 0 where
+pub record IsLinked (parts : List (Part ℕ)) : Type 0 where
   -- there is a main module
-  pub main : no_more (modules_of tops) ≡ false
+  pub main : no_more (modules_of parts) ≡ false
   -- each place is there, and is that of its scope; a `break` is inside its trap
-  pub scopes : in_each_part is_in_scope tops ≡ true
+  pub scopes : in_each_part is_in_scope parts ≡ true
   -- the kinds of each part fit
-  pub kinds : in_each_part (λ known p. kinds_fit known p.part) tops ≡ true
+  pub kinds : in_each_part (λ known p. kinds_fit known p.part) parts ≡ true
   -- the kinds of each declaration fit
-  pub declarations : list_all declaration_fits tops ≡ true
+  pub declarations : list_all declaration_fits parts ≡ true
   -- no `in` signal is emitted
-  pub inputs : in_each_part (λ known p. no_input_emitted known p.scope p.part) tops ≡ true
+  pub inputs : in_each_part (λ known p. no_input_emitted known p.scope p.part) parts ≡ true
   -- each run binds each signal of the interface, in its order
-  pub bindings : in_each_part (λ known p. binds_interface known p.part) tops ≡ true
+  pub bindings : in_each_part (λ known p. binds_interface known p.part) parts ≡ true
   -- numbers and sizes are within the limits of a text
-  pub limits : in_each_part (λ known p. is_limited p.part) tops ≡ true
+  pub limits : in_each_part (λ known p. is_limited p.part) parts ≡ true
   -- declarations have the forms that the grammar gives them
-  pub forms : list_all is_formed tops ≡ true
+  pub forms : list_all is_formed parts ≡ true
   -- no name is declared twice in one place
-  pub names : all_names_differ tops ≡ true
+  pub names : all_names_differ parts ≡ true

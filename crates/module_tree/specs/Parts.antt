@@ -8,15 +8,15 @@ use Rattle.host_expr.specs.declared.expr.ExprNode.TheOpen as e
 use Rattle.host_expr.specs.declared.expr.ExprNode.TheFolds.{fold-Expr}
 use Rattle.module_tree.specs.declared.source.NameAt.{NameAt}
 use Rattle.module_tree.specs.declared.source.ExprAt.{ExprAt}
-use Rattle.module_tree.specs.declared.source.SigNode.{SigNode}
+use Rattle.module_tree.specs.declared.source.SignalNode.{SignalNode}
 use Rattle.module_tree.specs.declared.source.Binding.{Binding}
 use Rattle.module_tree.specs.declared.source.AsyncNode.{AsyncNode}
 use Rattle.module_tree.specs.declared.source.ModuleNode.{ModuleNode}
 use Rattle.module_tree.specs.declared.source.BlockNode.{BlockNode}
 use Rattle.module_tree.specs.declared.source.Statement.TheOpen as s
 use Rattle.module_tree.specs.declared.source.Statement.TheFolds.{fold-BlockNode}
-use Rattle.module_tree.specs.declared.source.Plain.{Plain}
-use Rattle.module_tree.specs.declared.source.Plain.TheVariants as plain
+use Rattle.module_tree.specs.declared.source.Later.{Later}
+use Rattle.module_tree.specs.declared.source.Later.TheVariants as plain
 use Rattle.module_tree.specs.declared.source.Delay.{Delay}
 use Rattle.module_tree.specs.declared.source.Delay.TheVariants as delay
 use Rattle.module_tree.specs.Scopes.{InScope, Declared, interface_signals, with_signals, with_trap}
@@ -29,7 +29,7 @@ pub data Part (R : Type 0) : Type 0 where
   -- `emit` or `sustain`
   Emission : (signal : NameAt R) (value : Option (ExprAt R)) → Part R
   -- a `signal` list
-  Locals : (sigs : List SigNode) → Part R
+  Locals : (signals : List SignalNode) → Part R
   -- `break`
   Exit : (trap : NameAt R) → Part R
   -- `run`
@@ -71,17 +71,17 @@ abbrev pub if_there : {R : Type 0} → Option (Walk R) → Walk R
 if_there None = empty
 if_there (Some w) = w
 
-abbrev pub plain_walk : {R : Type 0} → Plain R → Walk R
+abbrev pub plain_walk : {R : Type 0} → Later R → Walk R
 plain_walk (plain.Once x) = here (Test x)
 plain_walk (plain.Count n x) = then (here (Times n)) (here (Test x))
 
 abbrev pub delay_walk : {R : Type 0} → Delay R → Walk R
-delay_walk (delay.Plain p) = plain_walk p
+delay_walk (delay.Later p) = plain_walk p
 delay_walk (delay.Immediate x) = here (Test x)
 
-abbrev pub locals_walk : {R : Type 0} → List SigNode → Walk R → Walk R
-locals_walk sigs block scope before =
-    block (with_signals before.signals sigs scope) (record { signals = before.signals + length sigs; traps = before.traps })
+abbrev pub locals_walk : {R : Type 0} → List SignalNode → Walk R → Walk R
+locals_walk signals block scope before =
+    block (with_signals before.signals signals scope) (record { signals = before.signals + length signals; traps = before.traps })
 
 abbrev pub trap_walk : {R : Type 0} → List ℕ → Walk R → Walk R
 trap_walk name block scope before =
@@ -104,7 +104,7 @@ statement_step (s.DoEvery b p) = then b (plain_walk p)
 statement_step (s.Abort d b) = then (delay_walk d) b
 statement_step (s.WeakAbort d b) = then (delay_walk d) b
 statement_step (s.Suspend immediate x b) = then (here (Test x)) b
-statement_step (s.Signal sigs b) = then (here (Locals sigs)) (locals_walk sigs b)
+statement_step (s.Signal signals b) = then (here (Locals signals)) (locals_walk signals b)
 statement_step (s.Trap n b) = trap_walk n b
 statement_step (s.Break n) = here (Exit n)
 statement_step (s.Run n bindings) = here (Call n bindings)
@@ -118,7 +118,7 @@ block_walk {R} = fold-BlockNode R (Walk R) (Walk R) (Walk R) statement_step bloc
 
 -- the parts of a module, in the order of the text
 abbrev pub parts_of : {R : Type 0} → ModuleNode R → List (Placed R)
-parts_of m = (block_walk m.block (record { signals = interface_signals m.decls; traps = [] }) (record { signals = length m.decls; traps = 0 })).parts
+parts_of m = (block_walk m.block (record { signals = interface_signals m.interface; traps = [] }) (record { signals = length m.interface; traps = 0 })).parts
 
 -- ---- what an expression reads
 

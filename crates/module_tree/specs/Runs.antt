@@ -4,7 +4,7 @@
 use Rattle.std.specs.Prelude.{ℕ, ◌==◌, ◌&&◌, Bool, true, List, [], ◌∷◌, map, length, slice_get, Option, Some, None}
 use Rattle.std.specs.List.{flat_map, list_all, list_any, range_with_len}
 use Rattle.module_tree.specs.declared.source.ModuleNode.{ModuleNode}
-use Rattle.module_tree.specs.declared.source.Top.{Top}
+use Rattle.module_tree.specs.declared.source.Part.{Part}
 use Rattle.module_tree.specs.Parts.{Part, Call, Placed, parts_of}
 use Rattle.module_tree.specs.Callables.{modules_of}
 
@@ -17,8 +17,8 @@ abbrev pub callees_of : ModuleNode ℕ → List ℕ
 callees_of m = flat_map (λ (p : Placed ℕ). callee_of p.part) (parts_of m)
 
 -- for each module, by its place, the modules that it runs
-abbrev pub runs_of : List (Top ℕ) → List (List ℕ)
-runs_of tops = map callees_of (modules_of tops)
+abbrev pub runs_of : List (Part ℕ) → List (List ℕ)
+runs_of parts = map callees_of (modules_of parts)
 
 abbrev pub or_none : Option (List ℕ) → List ℕ
 or_none None = []

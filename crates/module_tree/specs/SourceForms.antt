@@ -6,20 +6,20 @@ use Rattle.std.specs.List.{list_all}
 use Rattle.hh_base.specs.Value.{is_valued, is_interface}
 use Rattle.module_tree.specs.declared.source.NameAt.{NameAt}
 use Rattle.module_tree.specs.declared.source.ExprAt.{ExprAt}
-use Rattle.module_tree.specs.declared.source.SigNode.{SigNode}
-use Rattle.module_tree.specs.declared.source.DeclNode.{DeclNode}
-use Rattle.module_tree.specs.declared.source.ParamNode.{ParamNode}
+use Rattle.module_tree.specs.declared.source.SignalNode.{SignalNode}
+use Rattle.module_tree.specs.declared.source.InterfaceNode.{InterfaceNode}
+use Rattle.module_tree.specs.declared.source.ParameterNode.{ParameterNode}
 use Rattle.module_tree.specs.declared.source.Binding.{Binding}
 use Rattle.module_tree.specs.declared.source.AsyncNode.{AsyncNode}
 use Rattle.module_tree.specs.declared.source.BlockNode.{BlockNode}
 use Rattle.module_tree.specs.declared.source.Statement.TheOpen as s
 use Rattle.module_tree.specs.declared.source.Statement.TheFolds.{fold-BlockNode}
-use Rattle.module_tree.specs.declared.source.Plain.{Plain}
-use Rattle.module_tree.specs.declared.source.Plain.TheVariants as plain
+use Rattle.module_tree.specs.declared.source.Later.{Later}
+use Rattle.module_tree.specs.declared.source.Later.TheVariants as plain
 use Rattle.module_tree.specs.declared.source.Delay.{Delay}
 use Rattle.module_tree.specs.declared.source.Delay.TheVariants as delay
-use Rattle.module_tree.specs.declared.source.Top.{Top}
-use Rattle.module_tree.specs.declared.source.Top.TheVariants as top
+use Rattle.module_tree.specs.declared.source.Part.{Part}
+use Rattle.module_tree.specs.declared.source.Part.TheVariants as top
 use Rattle.module_tree.specs.SourceWords.{is_written_name, is_written_text, is_written_value}
 use Rattle.module_tree.specs.SourceExpressions.{is_written_expression}
 
@@ -38,21 +38,21 @@ fits_name n = is_written_name n.name
 abbrev pub fits_expression : ExprAt (List ℕ) → Bool
 fits_expression x = is_written_expression x.expr
 
-abbrev pub fits_sig : SigNode → Bool
-fits_sig s = is_written_name s.name && if_there is_written_value s.first
+abbrev pub fits_signal : SignalNode → Bool
+fits_signal s = is_written_name s.name && if_there is_written_value s.first
 
-abbrev pub fits_decl : DeclNode → Bool
-fits_decl d = is_interface d.dir && fits_sig d.sig
+abbrev pub fits_interface : InterfaceNode → Bool
+fits_interface d = is_interface d.dir && fits_signal d.signal
 
-abbrev pub fits_param : ParamNode → Bool
-fits_param p = is_written_name p.name && is_valued p.kind
+abbrev pub fits_parameter : ParameterNode → Bool
+fits_parameter p = is_written_name p.name && is_valued p.kind
 
-abbrev pub fits_plain : Plain (List ℕ) → Bool
-fits_plain (plain.Once x) = fits_expression x
-fits_plain (plain.Count n x) = nat_le 1 n && nat_le n 64 && fits_expression x
+abbrev pub fits_later : Later (List ℕ) → Bool
+fits_later (plain.Once x) = fits_expression x
+fits_later (plain.Count n x) = nat_le 1 n && nat_le n 64 && fits_expression x
 
 abbrev pub fits_delay : Delay (List ℕ) → Bool
-fits_delay (delay.Plain p) = fits_plain p
+fits_delay (delay.Later p) = fits_later p
 fits_delay (delay.Immediate x) = fits_expression x
 
 abbrev pub fits_binding : Binding (List ℕ) → Bool
@@ -75,11 +75,11 @@ statement_step (s.Fork bs) = is_filled bs && list_all (λ b. b) bs
 statement_step (s.Block b) = b
 statement_step (s.Await d) = fits_delay d
 statement_step (s.Every d b) = fits_delay d && b
-statement_step (s.DoEvery b p) = b && fits_plain p
+statement_step (s.DoEvery b p) = b && fits_later p
 statement_step (s.Abort d b) = fits_delay d && b
 statement_step (s.WeakAbort d b) = fits_delay d && b
 statement_step (s.Suspend immediate x b) = fits_expression x && b
-statement_step (s.Signal sigs b) = is_filled sigs && list_all fits_sig sigs && b
+statement_step (s.Signal signals b) = is_filled signals && list_all fits_signal signals && b
 statement_step (s.Trap n b) = is_written_name n && b
 statement_step (s.Break n) = fits_name n
 statement_step (s.Run n bindings) = fits_name n && list_all fits_binding bindings
@@ -91,7 +91,7 @@ block_step b = list_all (λ b. b) b.statements
 abbrev pub fits_block : BlockNode (List ℕ) → Bool
 fits_block = fold-BlockNode (List ℕ) Bool Bool Bool statement_step block_step (λ n. n.what)
 
-abbrev pub fits_top : Top (List ℕ) → Bool
-fits_top (top.Body b) = is_written_name b.name && list_all fits_param b.params && is_valued b.answer && fits_expression b.expr
-fits_top (top.Host h) = is_written_name h.name && list_all is_valued h.params
-fits_top (top.Module m) = is_written_name m.name && list_all fits_decl m.decls && fits_block m.block
+abbrev pub fits_part : Part (List ℕ) → Bool
+fits_part (top.Body b) = is_written_name b.name && list_all fits_parameter b.parameters && is_valued b.answer && fits_expression b.expr
+fits_part (top.Host h) = is_written_name h.name && list_all is_valued h.parameters
+fits_part (top.Module m) = is_written_name m.name && list_all fits_interface m.interface && fits_block m.block

@@ -1,36 +1,36 @@
 //! The levels of expressions.
 
 ghost use Rattle.std.specs.Prelude.{◌≡◌};
-ghost use Rattle.module_tree.specs.Parentheses.{rank_of, is_looser, level_of_op, right_of_op};
+ghost use Rattle.module_tree.specs.Parentheses.{tightness_of, is_looser, level_of_op, right_of_op};
 
 use host_expr::expr::Op;
 
 /// How tightly an expression binds, from the loosest to the tightest.
 #[derive(Clone, Copy, PartialEq, Eq, Debug)]
 pub enum Level {
-    Choose,
-    Or,
-    And,
-    Compare,
+    Expression,
+    Either,
+    Both,
+    Comparison,
     Sum,
     Product,
-    Unary,
-    Atom,
+    Factor,
+    Operand,
 }
 
 impl Level {
-    fn rank(self) -> u8
-        ensures { result ≡ rank_of self }
+    fn tightness(self) -> u8
+        ensures { result ≡ tightness_of self }
     {
         match self {
-            Level::Choose => 0,
-            Level::Or => 1,
-            Level::And => 2,
-            Level::Compare => 3,
+            Level::Expression => 0,
+            Level::Either => 1,
+            Level::Both => 2,
+            Level::Comparison => 3,
             Level::Sum => 4,
             Level::Product => 5,
-            Level::Unary => 6,
-            Level::Atom => 7,
+            Level::Factor => 6,
+            Level::Operand => 7,
         }
     }
 
@@ -38,7 +38,7 @@ impl Level {
     pub fn is_looser(self, least: Level) -> bool
         ensures { result ≡ is_looser self least }
     {
-        self.rank() < least.rank()
+        self.tightness() < least.tightness()
     }
 
     /// The level of an arithmetic expression, which is also that of its left operand at least.
@@ -57,7 +57,7 @@ impl Level {
     {
         match op {
             Op::Add | Op::Sub => Level::Product,
-            Op::Mul | Op::Div | Op::Rem => Level::Unary,
+            Op::Mul | Op::Div | Op::Rem => Level::Factor,
         }
     }
 }

@@ -4,7 +4,7 @@ ghost use Rattle.std.specs.Prelude.{◌≡◌, true};
 ghost use Rattle.module_tree.specs.LinkedFacts.{IsLinked};
 ghost use Rattle.module_tree.specs.Runs.{runs_of, is_callees_first};
 
-use crate::source::Top;
+use crate::source::Part;
 use sqlite_items::Items;
 use std::marker::Model;
 
@@ -19,13 +19,13 @@ use std::marker::Model;
 /// Contracts see the list of its declarations, which keeps `IsLinked`.
 #[derive(Drop)]
 pub struct Linked {
-    tops: Items<Top<u32>>,
+    parts: Items<Part<u32>>,
     callees_first: Vec<u32>,
 }
 
 impl Model for Linked {
     ghost use Rattle.std.specs.Prelude.{List, ℕ, ◌≡◌, true};
-    ghost use Rattle.module_tree.specs.declared.source.Top.{Top as ATop};
+    ghost use Rattle.module_tree.specs.declared.source.Part.{Part as ATop};
     ghost use Rattle.module_tree.specs.LinkedFacts.{IsLinked};
     ghost use Rattle.module_tree.specs.Runs.{runs_of, is_callees_first};
     ghost use Rattle.std.specs.Coded.{codes};
@@ -37,29 +37,29 @@ impl Model for Linked {
 
     ghost coded = { Prim.hlevel (codes, (node.the_row u32).coded, (block.the_row u32).coded) };
 
-    ghost view = { λ m. m.tops };
+    ghost view = { λ m. m.parts };
 
-    ghost invariant = { λ m. IsLinked m.tops × (is_callees_first (runs_of m.tops) m.callees_first.items ≡ true) };
+    ghost invariant = { λ m. IsLinked m.parts × (is_callees_first (runs_of m.parts) m.callees_first.items ≡ true) };
 }
 
 impl Linked {
     /// Takes no memory. `callees_first` are the places of all modules, each behind those of the modules that it runs.
-    pub fn new(tops: Items<Top<u32>>, callees_first: Vec<u32>) -> Linked
-        requires linked { IsLinked tops }
-        requires order { is_callees_first (runs_of tops) callees_first.items ≡ true }
-        ensures { result ≡ tops }
+    pub fn new(parts: Items<Part<u32>>, callees_first: Vec<u32>) -> Linked
+        requires linked { IsLinked parts }
+        requires order { is_callees_first (runs_of parts) callees_first.items ≡ true }
+        ensures { result ≡ parts }
     {
         Linked {
-            tops,
+            parts,
             callees_first,
         }
     }
 
-    pub fn tops(&self) -> &[Top<u32>]
-        ensures tops { result.now ≡ self.now }
+    pub fn parts(&self) -> &[Part<u32>]
+        ensures parts { result.now ≡ self.now }
         ensures linked { IsLinked self.now }
     {
-        self.tops.as_slice()
+        self.parts.as_slice()
     }
 
     /// The places of all modules, each behind those of the modules that it runs. So no module reaches itself by runs.

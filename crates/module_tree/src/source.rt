@@ -27,7 +27,7 @@ pub struct ExprAt<R: Drop> {
 
 /// A declaration of a text.
 #[derive(Drop)]
-pub enum Top<R: Drop> {
+pub enum Part<R: Drop> {
     Body(BodyNode<R>),
     Host(HostNode),
     Module(ModuleNode<R>),
@@ -38,14 +38,14 @@ pub enum Top<R: Drop> {
 pub struct BodyNode<R: Drop> {
     pub pos: Pos,
     pub name: Name,
-    pub params: Items<ParamNode>,
+    pub parameters: Items<ParameterNode>,
     pub answer: Kind,
     pub expr: ExprAt<R>,
 }
 
 /// `NAME: KIND`.
 #[derive(Drop)]
-pub struct ParamNode {
+pub struct ParameterNode {
     pub pos: Pos,
     pub name: Name,
     pub kind: Kind,
@@ -57,7 +57,7 @@ pub struct HostNode {
     pub pos: Pos,
     pub token: Pos,
     pub name: Name,
-    pub params: Items<Kind>,
+    pub parameters: Items<Kind>,
     pub answer: Kind,
 }
 
@@ -66,21 +66,21 @@ pub struct HostNode {
 pub struct ModuleNode<R: Drop> {
     pub pos: Pos,
     pub name: Name,
-    pub decls: Items<DeclNode>,
+    pub interface: Items<InterfaceNode>,
     pub block: BlockNode<R>,
 }
 
 /// A signal of a module's interface.
 #[derive(Drop)]
-pub struct DeclNode {
+pub struct InterfaceNode {
     pub dir: Dir,
-    pub sig: SigNode,
+    pub signal: SignalNode,
 }
 
 /// `NAME: KIND = FIRST combine WORD`. A pure signal is written without a kind, and `first` is None where the
 /// text writes no first value.
 #[derive(Drop)]
-pub struct SigNode {
+pub struct SignalNode {
     pub pos: Pos,
     pub name: Name,
     pub kind: Kind,
@@ -118,11 +118,11 @@ pub enum Statement<R: Drop> {
     Block(BlockNode<R>),
     Await(Delay<R>),
     Every(Delay<R>, BlockNode<R>),
-    DoEvery(BlockNode<R>, Plain<R>),
+    DoEvery(BlockNode<R>, Later<R>),
     Abort(Delay<R>, BlockNode<R>),
     WeakAbort(Delay<R>, BlockNode<R>),
     Suspend(bool, ExprAt<R>, BlockNode<R>),
-    Signal(Items<SigNode>, BlockNode<R>),
+    Signal(Items<SignalNode>, BlockNode<R>),
     Trap(Name, BlockNode<R>),
     Break(NameAt<R>),
     Run(NameAt<R>, Items<Binding<R>>),
@@ -132,13 +132,13 @@ pub enum Statement<R: Drop> {
 /// What a statement waits for.
 #[derive(Drop)]
 pub enum Delay<R: Drop> {
-    Plain(Plain<R>),
+    Later(Later<R>),
     Immediate(ExprAt<R>),
 }
 
 /// What a statement waits for from the next instant on: that the expression is true, once or a number of times.
 #[derive(Drop)]
-pub enum Plain<R: Drop> {
+pub enum Later<R: Drop> {
     Once(ExprAt<R>),
     Count(u8, ExprAt<R>),
 }
@@ -165,12 +165,12 @@ pub struct AsyncNode<R: Drop> {
 /// `is_source`. Contracts see the list of its declarations.
 #[derive(Drop)]
 pub struct Modules {
-    tops: Items<Top<Name>>,
+    parts: Items<Part<Name>>,
 }
 
 impl Model for Modules {
     ghost use Rattle.std.specs.Prelude.{List, ℕ, ◌≡◌, true};
-    ghost use Rattle.module_tree.specs.declared.source.Top.{Top as ATop};
+    ghost use Rattle.module_tree.specs.declared.source.Part.{Part as ATop};
     ghost use Rattle.module_tree.specs.Source.{is_source};
     ghost use Rattle.std.specs.Coded.{codes};
     ghost use Rattle.hh_base.specs.contracts.name.Name as name;
@@ -181,24 +181,24 @@ impl Model for Modules {
 
     ghost coded = { Prim.hlevel (codes, (node.the_row name.the_row).coded, (block.the_row name.the_row).coded) };
 
-    ghost view = { λ m. m.tops };
+    ghost view = { λ m. m.parts };
 
-    ghost invariant = { λ m. is_source m.tops ≡ true };
+    ghost invariant = { λ m. is_source m.parts ≡ true };
 }
 
 impl Modules {
     /// Takes no memory.
-    pub fn new(tops: Items<Top<Name>>) -> Modules
-        requires { is_source tops ≡ true }
-        ensures { result ≡ tops }
+    pub fn new(parts: Items<Part<Name>>) -> Modules
+        requires { is_source parts ≡ true }
+        ensures { result ≡ parts }
     {
-        Modules { tops }
+        Modules { parts }
     }
 
-    pub fn tops(&self) -> &[Top<Name>]
-        ensures tops { result.now ≡ self.now }
+    pub fn parts(&self) -> &[Part<Name>]
+        ensures parts { result.now ≡ self.now }
         ensures source { is_source self.now ≡ true }
     {
-        self.tops.as_slice()
+        self.parts.as_slice()
     }
 }

@@ -7,7 +7,7 @@ use Rattle.module_tree.specs.SourceWords.{is_written_name}
 use Rattle.module_token.specs.declared.token.TokenKind.{TokenKind}
 use Rattle.module_token.specs.declared.token.TokenKind.TheVariants as token
 use Rattle.module_token.specs.Spelling.{keyword_text, punct_text}
-use Rattle.module_token.specs.Tokens.{Tok}
+use Rattle.module_token.specs.Tokens.{TextToken}
 
 -- the bytes spell this token wherever a blank follows them
 abbrev pub IsLexeme : List ℕ → TokenKind → Type 0
@@ -18,7 +18,7 @@ IsLexeme w token.Quoted = (value : List ℕ) × IsText value × (w ≡ quoted va
 IsLexeme w (token.Punct mark) = w ≡ punct_text mark
 
 -- one token for each word, in order
-abbrev pub Spells : List (List ℕ) → List Tok → Type 0
+abbrev pub Spells : List (List ℕ) → List TextToken → Type 0
 Spells [] [] = Unit {0}
 Spells [] (t ∷ ts) = ⊥
 Spells (w ∷ ws) [] = ⊥

@@ -5,9 +5,9 @@ use Rattle.host_expr.specs.declared.expr.ExprNode.{ExprNode, roll-ExprNode}
 use Rattle.host_expr.specs.declared.expr.ExprNode.TheFolds.{fold-Expr}
 use Rattle.module_tree.specs.declared.source.NameAt.{NameAt}
 use Rattle.module_tree.specs.declared.source.ExprAt.{ExprAt}
-use Rattle.module_tree.specs.declared.source.SigNode.{SigNode}
-use Rattle.module_tree.specs.declared.source.DeclNode.{DeclNode}
-use Rattle.module_tree.specs.declared.source.ParamNode.{ParamNode}
+use Rattle.module_tree.specs.declared.source.SignalNode.{SignalNode}
+use Rattle.module_tree.specs.declared.source.InterfaceNode.{InterfaceNode}
+use Rattle.module_tree.specs.declared.source.ParameterNode.{ParameterNode}
 use Rattle.module_tree.specs.declared.source.Binding.{Binding}
 use Rattle.module_tree.specs.declared.source.AsyncNode.{AsyncNode}
 use Rattle.module_tree.specs.declared.source.BlockNode.{BlockNode}
@@ -16,13 +16,13 @@ use Rattle.module_tree.specs.declared.source.Statement.{Statement}
 use Rattle.module_tree.specs.declared.source.Statement.TheVariants as s
 use Rattle.module_tree.specs.declared.source.Statement.TheOpen as layer
 use Rattle.module_tree.specs.declared.source.Statement.TheFolds.{fold-BlockNode}
-use Rattle.module_tree.specs.declared.source.Plain.{Plain}
-use Rattle.module_tree.specs.declared.source.Plain.TheVariants as plain
+use Rattle.module_tree.specs.declared.source.Later.{Later}
+use Rattle.module_tree.specs.declared.source.Later.TheVariants as plain
 use Rattle.module_tree.specs.declared.source.Delay.{Delay}
 use Rattle.module_tree.specs.declared.source.Delay.TheVariants as delay
-use Rattle.module_tree.specs.declared.source.Top.{Top}
-use Rattle.module_tree.specs.declared.source.Top.TheVariants as top
-use Rattle.expression_reader.specs.Trees.{Name, at, node}
+use Rattle.module_tree.specs.declared.source.Part.{Part}
+use Rattle.module_tree.specs.declared.source.Part.TheVariants as top
+use Rattle.expression_reader.specs.Trees.{Name, pos_at, node}
 use Rattle.module_reader.specs.Trees.{statement_at, block_at}
 
 -- ---- parts
@@ -31,26 +31,26 @@ abbrev pub placeless_expr : Expr Name → Expr Name
 placeless_expr = fold-Expr Name (ExprNode Name) (Expr Name) (roll-ExprNode Name) (λ x. node 0 x.node)
 
 abbrev pub placeless_outermost : ExprAt Name → ExprAt Name
-placeless_outermost x = record { pos = at 0; expr = placeless_expr x.expr }
+placeless_outermost x = record { pos = pos_at 0; expr = placeless_expr x.expr }
 
 abbrev pub placeless_name : NameAt Name → NameAt Name
-placeless_name n = record { pos = at 0; name = n.name }
+placeless_name n = record { pos = pos_at 0; name = n.name }
 
-abbrev pub placeless_sig : SigNode → SigNode
-placeless_sig s = record { pos = at 0; name = s.name; kind = s.kind; first = s.first; combine = s.combine }
+abbrev pub placeless_signal : SignalNode → SignalNode
+placeless_signal s = record { pos = pos_at 0; name = s.name; kind = s.kind; first = s.first; combine = s.combine }
 
-abbrev pub placeless_decl : DeclNode → DeclNode
-placeless_decl d = record { dir = d.dir; sig = placeless_sig d.sig }
+abbrev pub placeless_interface : InterfaceNode → InterfaceNode
+placeless_interface d = record { dir = d.dir; signal = placeless_signal d.signal }
 
-abbrev pub placeless_param : ParamNode → ParamNode
-placeless_param p = record { pos = at 0; name = p.name; kind = p.kind }
+abbrev pub placeless_parameter : ParameterNode → ParameterNode
+placeless_parameter p = record { pos = pos_at 0; name = p.name; kind = p.kind }
 
-abbrev pub placeless_plain : Plain Name → Plain Name
-placeless_plain (plain.Once x) = plain.Once (placeless_outermost x)
-placeless_plain (plain.Count n x) = plain.Count n (placeless_outermost x)
+abbrev pub placeless_later : Later Name → Later Name
+placeless_later (plain.Once x) = plain.Once (placeless_outermost x)
+placeless_later (plain.Count n x) = plain.Count n (placeless_outermost x)
 
 abbrev pub placeless_delay : Delay Name → Delay Name
-placeless_delay (delay.Plain p) = delay.Plain (placeless_plain p)
+placeless_delay (delay.Later p) = delay.Later (placeless_later p)
 placeless_delay (delay.Immediate x) = delay.Immediate (placeless_outermost x)
 
 abbrev pub placeless_binding : Binding Name → Binding Name
@@ -75,11 +75,11 @@ statement_step (layer.Fork bs) = s.Fork bs
 statement_step (layer.Block b) = s.Block b
 statement_step (layer.Await d) = s.Await (placeless_delay d)
 statement_step (layer.Every d b) = s.Every (placeless_delay d) b
-statement_step (layer.DoEvery b p) = s.DoEvery b (placeless_plain p)
+statement_step (layer.DoEvery b p) = s.DoEvery b (placeless_later p)
 statement_step (layer.Abort d b) = s.Abort (placeless_delay d) b
 statement_step (layer.WeakAbort d b) = s.WeakAbort (placeless_delay d) b
 statement_step (layer.Suspend immediate x b) = s.Suspend immediate (placeless_outermost x) b
-statement_step (layer.Signal sigs b) = s.Signal (map placeless_sig sigs) b
+statement_step (layer.Signal signals b) = s.Signal (map placeless_signal signals) b
 statement_step (layer.Trap n b) = s.Trap n b
 statement_step (layer.Break n) = s.Break (placeless_name n)
 statement_step (layer.Run n bindings) = s.Run (placeless_name n) (map placeless_binding bindings)
@@ -96,13 +96,13 @@ placeless_block = fold-BlockNode Name (Statement Name) (BlockNode Name) (Stateme
 
 -- ---- texts
 
-abbrev pub placeless_top : Top Name → Top Name
-placeless_top (top.Body b) = top.Body (record { pos = at 0; name = b.name; params = map placeless_param b.params; answer = b.answer; expr = placeless_outermost b.expr })
-placeless_top (top.Host h) = top.Host (record { pos = at 0; token = at 0; name = h.name; params = h.params; answer = h.answer })
-placeless_top (top.Module m) = top.Module (record { pos = at 0; name = m.name; decls = map placeless_decl m.decls; block = placeless_block m.block })
+abbrev pub placeless_part : Part Name → Part Name
+placeless_part (top.Body b) = top.Body (record { pos = pos_at 0; name = b.name; parameters = map placeless_parameter b.parameters; answer = b.answer; expr = placeless_outermost b.expr })
+placeless_part (top.Host h) = top.Host (record { pos = pos_at 0; token = pos_at 0; name = h.name; parameters = h.parameters; answer = h.answer })
+placeless_part (top.Module m) = top.Module (record { pos = pos_at 0; name = m.name; interface = map placeless_interface m.interface; block = placeless_block m.block })
 
-abbrev pub without_places : List (Top Name) → List (Top Name)
-without_places = map placeless_top
+abbrev pub without_places : List (Part Name) → List (Part Name)
+without_places = map placeless_part
 
-abbrev pub SameButPlaces : List (Top Name) → List (Top Name) → Type 0
+abbrev pub SameButPlaces : List (Part Name) → List (Part Name) → Type 0
 SameButPlaces a b = without_places a ≡ without_places b

@@ -34,7 +34,7 @@ pub fn read_back(alloc: Global, modules: &Modules) -> Result<Modules, ReadFault>
     ensures fault { IfErr result (λ e. e.kind ≡ ReadKind.NoMemory) }
 {
     // What a source tree keeps is told by the call that shows it.
-    let _tops = modules.tops();
+    let _tops = modules.parts();
     let Ok(bytes) = print(alloc, modules) else {
         return Err(ReadFault {
             pos: Pos(0),

@@ -61,7 +61,7 @@ few_marks c [] le few = omega (arith, le)
 few_marks c (zero ∷ ms) le few = few_marks c ms le few.1
 few_marks c (suc m ∷ ms) le few = omega (arith, few_marks (suc c) ms few.0 few.1)
 
-expr_fits : (room : ℕ) → Keeps (λ (a : ℕ × Expr Name). Fits fits_expression nesting_at room (expr_at a)) (l.outer (l.placed (g.expr (g.inside room))))
+expr_fits : (room : ℕ) → Keeps (λ (a : ℕ × Expr Name). Fits fits_expression nesting_at room (expr_at a)) (l.outer (l.placed (g.expression (g.inside room))))
 expr_fits room = record {
   of = λ a text ks lawful few h.
       let x = (expression room).of a.1 text h.0 lawful h.1.4 in
@@ -72,8 +72,8 @@ expr_fits room = record {
 pub outermost : (room : ℕ) → Keeps (Fits fits_expression nesting_at room) (g.outermost room)
 outermost room = keeps_then (expr_fits room) (λ a h. keeps_pure h)
 
-pub tested : (room : ℕ) → Keeps (Fits fits_expression in_parentheses room) (g.tested room)
+pub tested : (room : ℕ) → Keeps (Fits fits_expression in_parentheses room) (g.test room)
 tested room = keeps_round outermost room
 
-pub value : (room : ℕ) → Keeps (Fits (if_there fits_expression) nesting_of_value room) (g.optional (g.tested room))
+pub value : (room : ℕ) → Keeps (Fits (if_there fits_expression) nesting_of_value room) (g.optional (g.test room))
 value room = keeps_or (keeps_then (tested room) (λ a h. keeps_pure (record { passes = h.passes; within = h.within }))) (keeps_pure (record { passes = refl; within = omega arith }))

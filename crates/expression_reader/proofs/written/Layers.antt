@@ -4,7 +4,7 @@ use Rattle.host_expr.specs.declared.expr.Expr.{Expr}
 use Rattle.host_expr.specs.declared.expr.ExprNode.{ExprNode, roll-ExprNode}
 use Rattle.host_expr.specs.declared.expr.ExprNode.TheOpen as e
 use Rattle.host_expr.specs.declared.expr.ExprNode.TheFolds.{fold-Expr, fold-ExprNode, fold-roll-Expr, fold-roll-ExprNode, map-ExprNode}
-use Rattle.expression_reader.specs.Trees.{Name, node, at}
+use Rattle.expression_reader.specs.Trees.{Name, node, pos_at}
 
 module _ {A : Type 0} (step : e.ExprNode-F Name A A → A) where
   abbrev pub of_expr : Expr Name → A
@@ -18,4 +18,4 @@ module _ {A : Type 0} (step : e.ExprNode-F Name A A → A) where
   of_parts = map-ExprNode Name (ExprNode Name) (Expr Name) A A of_node of_expr
 
   pub expr_layer : (n : ℕ) (parts : e.ExprNode-F Name (ExprNode Name) (Expr Name)) {x : ExprNode Name} → roll-ExprNode Name parts ≡ x → of_expr (node n x) ≡ step (of_parts parts)
-  expr_layer n parts {x} rolls = fold-roll-Expr Name A A step (λ x. x.node) (record { pos = at n; node = x }) ∙ ap of_node (sym rolls) ∙ fold-roll-ExprNode Name A A step (λ x. x.node) parts
+  expr_layer n parts {x} rolls = fold-roll-Expr Name A A step (λ x. x.node) (record { pos = pos_at n; node = x }) ∙ ap of_node (sym rolls) ∙ fold-roll-ExprNode Name A A step (λ x. x.node) parts

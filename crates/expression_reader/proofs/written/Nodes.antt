@@ -11,7 +11,7 @@ use Rattle.host_expr.specs.declared.expr.ExprNode.TheVariants as x
 use Rattle.host_expr.specs.declared.expr.ExprNode.TheOpen as e
 use Rattle.module_tree.specs.declared.level.Level.{Level}
 use Rattle.module_tree.specs.declared.level.Level.TheVariants as level
-use Rattle.module_tree.specs.Parentheses.{levelled, levelled_step, rank_of, is_looser, level_of_op, right_of_op}
+use Rattle.module_tree.specs.Parentheses.{levelled, levelled_step, tightness_of, is_looser, level_of_op, right_of_op}
 use Rattle.module_tree.specs.Parentheses as p
 use Rattle.module_tree.specs.SourceWords.{is_written_name, is_written_text}
 use Rattle.module_tree.specs.SourceExpressions.{words_step, size_step, nesting_step, has_written_words, size_of, nesting_of}
@@ -19,7 +19,7 @@ use Rattle.expression_reader.specs.declared.operator.Operator.{Operator}
 use Rattle.expression_reader.specs.declared.operator.Operator.TheVariants as o
 use Rattle.expression_reader.specs.declared.operator.Access.{Access}
 use Rattle.expression_reader.specs.declared.operator.Access.TheVariants as reading
-use Rattle.expression_reader.specs.Trees.{Name, node, accessed, joined}
+use Rattle.expression_reader.specs.Trees.{Name, node, accessed, applied}
 use Rattle.expression_reader.proofs.written.Layers.{expr_layer, of_parts}
 
 -- an expression with n leaves and operators, in a place that takes this level and tighter ones, where so many brackets may be opened
@@ -55,36 +55,36 @@ module _ (room : ℕ) (n : ℕ) where
   looser_place r a b false lt le h = without (nat_lt r b) h
 
 -- a place that takes looser ones too
-pub is_written_looser : (a b : Level) → rank_of a ≤ rank_of b → {room : ℕ} {x : Expr Name} {n : ℕ} → IsWritten b room x n → IsWritten a room x n
+pub is_written_looser : (a b : Level) → tightness_of a ≤ tightness_of b → {room : ℕ} {x : Expr Name} {n : ℕ} → IsWritten b room x n → IsWritten a room x n
 is_written_looser a b le {room} {x} {n} h = record {
   words = h.words;
   size = h.size;
-  nesting = let l = levelled suc nesting_step x in looser_place room l.value (rank_of l.level) (rank_of a) (rank_of b) (nat_lt (rank_of l.level) (rank_of a)) refl le h.nesting;
+  nesting = let l = levelled suc nesting_step x in looser_place room l.value (tightness_of l.level) (tightness_of a) (tightness_of b) (nat_lt (tightness_of l.level) (tightness_of a)) refl le h.nesting;
 }
 
-pub nesting_is : (room : ℕ) (x : Expr Name) (n : ℕ) → IsWritten level.Choose room x n → nesting_of x ≤ room
-nesting_is room x n h = let l = levelled suc nesting_step x in without room l.value (is_looser l.level level.Choose) h.nesting
+pub nesting_is : (room : ℕ) (x : Expr Name) (n : ℕ) → IsWritten level.Expression room x n → nesting_of x ≤ room
+nesting_is room x n h = let l = levelled suc nesting_step x in without room l.value (is_looser l.level level.Expression) h.nesting
 
 -- between parentheses it may stand anywhere
-pub is_written_inside : {room : ℕ} {x : Expr Name} {n : ℕ} → IsWritten level.Choose room x n → IsWritten level.Atom (suc room) x n
+pub is_written_inside : {room : ℕ} {x : Expr Name} {n : ℕ} → IsWritten level.Expression room x n → IsWritten level.Operand (suc room) x n
 is_written_inside {room} {x} {n} h = record {
   words = h.words;
   size = h.size;
-  nesting = let l = levelled suc nesting_step x in within_parentheses room l.value (is_looser l.level level.Atom) (nesting_is room x n h);
+  nesting = let l = levelled suc nesting_step x in within_parentheses room l.value (is_looser l.level level.Operand) (nesting_is room x n h);
 }
 
 -- ---- one node
 
 -- in a place of its own level nothing is looser
 own_place : (l : Level) (n : ℕ) → p.at suc l (record { level = l; value = n }) ≡ n
-own_place level.Choose n = refl
-own_place level.Or n = refl
-own_place level.And n = refl
-own_place level.Compare n = refl
+own_place level.Expression n = refl
+own_place level.Either n = refl
+own_place level.Both n = refl
+own_place level.Comparison n = refl
 own_place level.Sum n = refl
 own_place level.Product n = refl
-own_place level.Unary n = refl
-own_place level.Atom n = refl
+own_place level.Factor n = refl
+own_place level.Operand n = refl
 
 -- by what is told of its parts
 module _ {room n : ℕ} (place : ℕ) (parts : e.ExprNode-F Name (ExprNode Name) (Expr Name)) {x : ExprNode Name} (rolls : roll-ExprNode Name parts ≡ x) where
@@ -99,30 +99,30 @@ module _ {room n : ℕ} (place : ℕ) (parts : e.ExprNode-F Name (ExprNode Name)
       }
 
 module _ {room : ℕ} (place : ℕ) where
-  pub int_written : (n : ℕ) → nat_lt n (2 ^ 63) ≡ true → IsWritten level.Atom room (node place (x.Int (pos n))) 1
+  pub int_written : (n : ℕ) → nat_lt n (2 ^ 63) ≡ true → IsWritten level.Operand room (node place (x.Int (pos n))) 1
   int_written n h = of_node place (e.Int (pos n)) (x.rolls-Int (pos n)) h refl (omega arith)
 
-  pub bool_written : (b : Bool) → IsWritten level.Atom room (node place (x.Bool b)) 1
+  pub bool_written : (b : Bool) → IsWritten level.Operand room (node place (x.Bool b)) 1
   bool_written b = of_node place (e.Bool b) (x.rolls-Bool b) refl refl (omega arith)
 
-  pub text_written : (z : Name) → is_written_text z ≡ true → IsWritten level.Atom room (node place (x.Text z)) 1
+  pub text_written : (z : Name) → is_written_text z ≡ true → IsWritten level.Operand room (node place (x.Text z)) 1
   text_written z h = of_node place (e.Text z) (x.rolls-Text z) h refl (omega arith)
 
-  pub signal_written : (a : Access) (z : Name) → is_written_name z ≡ true → IsWritten level.Atom room (node place (accessed a z)) 1
+  pub signal_written : (a : Access) (z : Name) → is_written_name z ≡ true → IsWritten level.Operand room (node place (accessed a z)) 1
   signal_written reading.Now z h = of_node place (e.Now z) (x.rolls-Now z) h refl (omega arith)
   signal_written reading.Pre z h = of_node place (e.Pre z) (x.rolls-Pre z) h refl (omega arith)
   signal_written reading.NowVal z h = of_node place (e.NowVal z) (x.rolls-NowVal z) h refl (omega arith)
   signal_written reading.PreVal z h = of_node place (e.PreVal z) (x.rolls-PreVal z) h refl (omega arith)
   signal_written reading.Parameter z h = of_node place (e.Arg z) (x.rolls-Arg z) h refl (omega arith)
 
-  pub not_written : {a : Expr Name} {k : ℕ} → IsWritten level.Atom room a k → IsWritten level.Unary room (node place (x.Not a)) (1 + k)
+  pub not_written : {a : Expr Name} {k : ℕ} → IsWritten level.Operand room a k → IsWritten level.Factor room (node place (x.Not a)) (1 + k)
   not_written {a} h = of_node place (e.Not a) (x.rolls-Not a) h.words (omega (arith, h.size)) h.nesting
 
-  pub neg_written : {a : Expr Name} {k : ℕ} → IsWritten level.Atom room a k → IsWritten level.Unary room (node place (x.Neg a)) (1 + k)
+  pub neg_written : {a : Expr Name} {k : ℕ} → IsWritten level.Operand room a k → IsWritten level.Factor room (node place (x.Neg a)) (1 + k)
   neg_written {a} h = of_node place (e.Neg a) (x.rolls-Neg a) h.words (omega (arith, h.size)) h.nesting
 
-  pub choose_written : {a b c : Expr Name} {i j k : ℕ} → IsWritten level.Or room a i → IsWritten level.Or room b j → IsWritten level.Or room c k
-      → IsWritten level.Choose room (node place (x.Choose a b c)) (1 + i + j + k)
+  pub choose_written : {a b c : Expr Name} {i j k : ℕ} → IsWritten level.Either room a i → IsWritten level.Either room b j → IsWritten level.Either room c k
+      → IsWritten level.Expression room (node place (x.Choose a b c)) (1 + i + j + k)
   choose_written {a} {b} {c} f g h =
       of_node place (e.Choose a b c) (x.rolls-Choose a b c) (both (both f.words g.words) h.words) (omega (arith, f.size, g.size, h.size)) (max-le f.nesting (max-le g.nesting h.nesting))
 
@@ -131,15 +131,15 @@ module _ {room : ℕ} (place : ℕ) where
 -- an operator of the level `own`, whose operands have the levels `left` and `right` at least
 abbrev pub Joins : Level → Level → Level → Operator → Type 0
 Joins left own right z =
-    (room : ℕ) (place : ℕ) (a b : Expr Name) (n k : ℕ) → IsWritten left room a n → IsWritten right room b k → IsWritten own room (joined a ((place, z), b)) (n + (1 + k))
+    (room : ℕ) (place : ℕ) (a b : Expr Name) (n k : ℕ) → IsWritten left room a n → IsWritten right room b k → IsWritten own room (applied a ((place, z), b)) (n + (1 + k))
 
-pub or_joins : Joins level.Or level.Or level.And o.Or
+pub or_joins : Joins level.Either level.Either level.Both o.Or
 or_joins room place a b n k f g = of_node place (e.Or a b) (x.rolls-Or a b) (both f.words g.words) (omega (arith, f.size, g.size)) (max-le f.nesting g.nesting)
 
-pub and_joins : Joins level.And level.And level.Compare o.And
+pub and_joins : Joins level.Both level.Both level.Comparison o.And
 and_joins room place a b n k f g = of_node place (e.And a b) (x.rolls-And a b) (both f.words g.words) (omega (arith, f.size, g.size)) (max-le f.nesting g.nesting)
 
-pub relation_joins : (rel : Rel) → Joins level.Sum level.Compare level.Sum (o.Compare rel)
+pub relation_joins : (rel : Rel) → Joins level.Sum level.Comparison level.Sum (o.Compare rel)
 relation_joins rel room place a b n k f g = of_node place (e.Compare rel a b) (x.rolls-Compare rel a b) (both f.words g.words) (omega (arith, f.size, g.size)) (max-le f.nesting g.nesting)
 
 pub arith_joins : (op : Op) → Joins (level_of_op op) (level_of_op op) (right_of_op op) (o.Arith op)

@@ -1,17 +1,17 @@
 //! Writing the parts of declarations.
 
 ghost use Rattle.std.specs.Prelude.{◌≡◌, ◌∷◌, ◌++◌, [], codes, OnOk};
-ghost use Rattle.module_printer.specs.SourceTokens.{token_of_kind, token_of_combine, tokens_of_kind, tokens_of_dir, tokens_of_type, tokens_of_first, tokens_of_combine, tokens_of_sig, tokens_of_decl, tokens_of_param, tokens_of_binding, if_there};
+ghost use Rattle.module_printer.specs.SourceTokens.{token_of_kind, token_of_combine, tokens_of_kind, tokens_of_dir, tokens_of_type, tokens_of_first, tokens_of_combine, tokens_of_signal, tokens_of_interface, tokens_of_parameter, tokens_of_binding, if_there};
 ghost use Rattle.module_printer.specs.ExpressionTokens.{tokens_of_value};
 ghost use Rattle.module_printer.specs.Printed.{spaced};
 
 use crate::print::expressions::truth_token;
-use crate::print::printer::{Printer, Tokens};
+use crate::print::printer::{Printer, Printable};
 use hh_base::memory::NoMemory;
 use hh_base::name::Name;
 use hh_base::value::{CombineWord, Kind, Value};
 use hh_base::value::Dir;
-use module_tree::source::{Binding, DeclNode, ParamNode, SigNode};
+use module_tree::source::{Binding, InterfaceNode, ParameterNode, SignalNode};
 
 fn kind_token(kind: Kind) -> &'static str
     ensures { result.now ≡ token_of_kind kind }
@@ -101,7 +101,7 @@ impl Printer {
     }
 }
 
-impl Tokens for Kind {
+impl Printable for Kind {
     ghost tokens = { tokens_of_kind };
 
     fn print(&self, printer: &mut Printer) -> Result<(), NoMemory> {
@@ -109,8 +109,8 @@ impl Tokens for Kind {
     }
 }
 
-impl Tokens for ParamNode {
-    ghost tokens = { tokens_of_param };
+impl Printable for ParameterNode {
+    ghost tokens = { tokens_of_parameter };
 
     fn print(&self, printer: &mut Printer) -> Result<(), NoMemory> {
         printer.token(self.name.as_str())?;
@@ -118,8 +118,8 @@ impl Tokens for ParamNode {
     }
 }
 
-impl Tokens for SigNode {
-    ghost tokens = { tokens_of_sig };
+impl Printable for SignalNode {
+    ghost tokens = { tokens_of_signal };
 
     fn print(&self, printer: &mut Printer) -> Result<(), NoMemory> {
         printer.token(self.name.as_str())?;
@@ -129,16 +129,16 @@ impl Tokens for SigNode {
     }
 }
 
-impl Tokens for DeclNode {
-    ghost tokens = { tokens_of_decl };
+impl Printable for InterfaceNode {
+    ghost tokens = { tokens_of_interface };
 
     fn print(&self, printer: &mut Printer) -> Result<(), NoMemory> {
         printer.direction(self.dir)?;
-        self.sig.print(printer)
+        self.signal.print(printer)
     }
 }
 
-impl Tokens for Binding<Name> {
+impl Printable for Binding<Name> {
     ghost tokens = { tokens_of_binding };
 
     fn print(&self, printer: &mut Printer) -> Result<(), NoMemory> {

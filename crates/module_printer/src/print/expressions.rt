@@ -6,7 +6,7 @@ ghost use Rattle.module_printer.specs.ExpressionTokens.{in_parentheses, token_of
 ghost use Rattle.module_printer.specs.SourceTokens.{tokens_of_outermost};
 ghost use Rattle.module_printer.specs.Printed.{spaced};
 
-use crate::print::printer::{Printer, Tokens};
+use crate::print::printer::{Printer, Printable};
 use hh_base::memory::NoMemory;
 use hh_base::name::Name;
 use module_tree::level::Level;
@@ -48,13 +48,13 @@ fn level_of(node: &ExprNode<Name>) -> Level
     ensures { result ≡ (written_node node.now).level }
 {
     match node {
-        ExprNode::Choose(_, _, _) => Level::Choose,
-        ExprNode::Or(_, _) => Level::Or,
-        ExprNode::And(_, _) => Level::And,
-        ExprNode::Compare(_, _, _) => Level::Compare,
+        ExprNode::Choose(_, _, _) => Level::Expression,
+        ExprNode::Or(_, _) => Level::Either,
+        ExprNode::And(_, _) => Level::Both,
+        ExprNode::Compare(_, _, _) => Level::Comparison,
         ExprNode::Arith(op, _, _) => Level::of_op(*op),
-        ExprNode::Not(_) | ExprNode::Neg(_) => Level::Unary,
-        _ => Level::Atom,
+        ExprNode::Not(_) | ExprNode::Neg(_) => Level::Factor,
+        _ => Level::Operand,
     }
 }
 
@@ -107,8 +107,8 @@ impl Printer {
             ExprNode::NowVal(signal) => self.read(signal, "nowval"),
             ExprNode::PreVal(signal) => self.read(signal, "preval"),
             ExprNode::Arg(name) => self.token(name.as_str()),
-            ExprNode::Not(a) => self.operand_behind("!", Level::Atom, a.get()),
-            ExprNode::Neg(a) => self.operand_behind("-", Level::Atom, a.get()),
+            ExprNode::Not(a) => self.operand_behind("!", Level::Operand, a.get()),
+            ExprNode::Neg(a) => self.operand_behind("-", Level::Operand, a.get()),
             ExprNode::Arith(op, a, b) => {
                 self.operand(Level::of_op(*op), a.get())?;
                 self.operand_behind(op_token(*op), Level::right_of_op(*op), b.get())
@@ -118,17 +118,17 @@ impl Printer {
                 self.operand_behind(rel_token(*rel), Level::Sum, b.get())
             }
             ExprNode::And(a, b) => {
-                self.operand(Level::And, a.get())?;
-                self.operand_behind("&&", Level::Compare, b.get())
+                self.operand(Level::Both, a.get())?;
+                self.operand_behind("&&", Level::Comparison, b.get())
             }
             ExprNode::Or(a, b) => {
-                self.operand(Level::Or, a.get())?;
-                self.operand_behind("||", Level::And, b.get())
+                self.operand(Level::Either, a.get())?;
+                self.operand_behind("||", Level::Both, b.get())
             }
             ExprNode::Choose(a, b, c) => {
-                self.operand(Level::Or, a.get())?;
-                self.operand_behind("?", Level::Or, b.get())?;
-                self.operand_behind(":", Level::Or, c.get())
+                self.operand(Level::Either, a.get())?;
+                self.operand_behind("?", Level::Either, b.get())?;
+                self.operand_behind(":", Level::Either, c.get())
             }
         }
     }
@@ -140,7 +140,7 @@ impl Printer {
     }
 }
 
-impl Tokens for ExprAt<Name> {
+impl Printable for ExprAt<Name> {
     ghost tokens = { tokens_of_outermost };
 
     fn print(&self, printer: &mut Printer) -> Result<(), NoMemory> {

@@ -30,7 +30,7 @@ impl Model for Printer {
 }
 
 /// A part of a text that is written as tokens.
-pub trait Tokens {
+pub trait Printable {
     ghost tokens: { Self → List (List ℕ) };
 
     fn print(&self, printer: &mut Printer) -> Result<(), NoMemory>
@@ -115,7 +115,7 @@ impl Printer {
         }
     }
 
-    fn behind_commas<T: Tokens>(&mut self, items: &[T]) -> Result<(), NoMemory>
+    fn behind_commas<T: Printable>(&mut self, items: &[T]) -> Result<(), NoMemory>
         ensures { OnOk result (self.new ≡ self.old ++ spaced (behind (codes ",") (map T.tokens items.now))) }
     {
         for item in items {
@@ -126,7 +126,7 @@ impl Printer {
     }
 
     /// Writes the items with a comma between neighbours.
-    pub fn list<T: Tokens>(&mut self, items: &[T]) -> Result<(), NoMemory>
+    pub fn list<T: Printable>(&mut self, items: &[T]) -> Result<(), NoMemory>
         ensures { OnOk result (self.new ≡ self.old ++ spaced (comma_separated (map T.tokens items.now))) }
     {
         match items.split_first() {
@@ -139,7 +139,7 @@ impl Printer {
     }
 
     /// Writes the items in parentheses, with a comma between neighbours.
-    pub fn parenthesized<T: Tokens>(&mut self, items: &[T]) -> Result<(), NoMemory>
+    pub fn parenthesized<T: Printable>(&mut self, items: &[T]) -> Result<(), NoMemory>
         ensures { OnOk result (self.new ≡ self.old ++ spaced (in_parentheses (comma_separated (map T.tokens items.now)))) }
     {
         self.token("(")?;

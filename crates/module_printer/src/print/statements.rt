@@ -1,14 +1,14 @@
 //! Writing statements.
 
 ghost use Rattle.std.specs.Prelude.{◌≡◌, ◌∷◌, ◌++◌, [], codes, map, OnOk};
-ghost use Rattle.module_printer.specs.SourceTokens.{joined, separated, comma_separated, tokens_of_sig, tokens_of_test, tokens_of_plain, tokens_of_delay, tokens_of_signal, tokens_of_call, tokens_of_handlers, tokens_of_async, tokens_of_emission, tokens_of_run, immediate_word, if_there, tokens_of_statement, tokens_of_node, tokens_of_block};
+ghost use Rattle.module_printer.specs.SourceTokens.{one_after_another, separated, comma_separated, tokens_of_signal, tokens_of_test, tokens_of_later, tokens_of_delay, tokens_of_answer, tokens_of_call, tokens_of_handlers, tokens_of_async, tokens_of_emission, tokens_of_run, immediate_word, if_there, tokens_of_statement, tokens_of_node, tokens_of_block};
 ghost use Rattle.module_printer.specs.Printed.{spaced};
 
 use crate::print::printer::Printer;
 use hh_base::memory::NoMemory;
 use hh_base::name::Name;
 use module_tree::source::{
-    AsyncNode, Binding, BlockNode, Delay, ExprAt, NameAt, Plain, SigNode, Statement, StatementNode,
+    AsyncNode, Binding, BlockNode, Delay, ExprAt, NameAt, Later, SignalNode, Statement, StatementNode,
 };
 
 impl Printer {
@@ -21,12 +21,12 @@ impl Printer {
         self.token(")")
     }
 
-    fn plain(&mut self, plain: &Plain<Name>) -> Result<(), NoMemory>
-        ensures { OnOk result (self.new ≡ self.old ++ spaced (tokens_of_plain plain.now)) }
+    fn later(&mut self, later: &Later<Name>) -> Result<(), NoMemory>
+        ensures { OnOk result (self.new ≡ self.old ++ spaced (tokens_of_later later.now)) }
     {
-        match plain {
-            Plain::Once(test) => self.test(test),
-            Plain::Count(times, test) => {
+        match later {
+            Later::Once(test) => self.test(test),
+            Later::Count(times, test) => {
                 self.token("count")?;
                 self.token("(")?;
                 self.number(*times as u64)?;
@@ -41,7 +41,7 @@ impl Printer {
         ensures { OnOk result (self.new ≡ self.old ++ spaced (tokens_of_delay delay.now)) }
     {
         match delay {
-            Delay::Plain(plain) => self.plain(plain),
+            Delay::Later(later) => self.later(later),
             Delay::Immediate(test) => {
                 self.token("immediate")?;
                 self.test(test)
@@ -83,7 +83,7 @@ impl Printer {
     }
 
     fn answered(&mut self, signal: &Option<NameAt<Name>>) -> Result<(), NoMemory>
-        ensures { OnOk result (self.new ≡ self.old ++ spaced (if_there tokens_of_signal signal.now)) }
+        ensures { OnOk result (self.new ≡ self.old ++ spaced (if_there tokens_of_answer signal.now)) }
     {
         match signal {
             None => Ok(()),
@@ -203,13 +203,13 @@ impl Printer {
     }
 
     #[cycle(statement)]
-    fn do_every(&mut self, block: &BlockNode<Name>, plain: &Plain<Name>) -> Result<(), NoMemory>
-        ensures { OnOk result (self.new ≡ self.old ++ spaced ((codes "do" ∷ tokens_of_block block.now) ++ (codes "every" ∷ tokens_of_plain plain.now) ++ codes ";" ∷ [])) }
+    fn do_every(&mut self, block: &BlockNode<Name>, later: &Later<Name>) -> Result<(), NoMemory>
+        ensures { OnOk result (self.new ≡ self.old ++ spaced ((codes "do" ∷ tokens_of_block block.now) ++ (codes "every" ∷ tokens_of_later later.now) ++ codes ";" ∷ [])) }
     {
         self.token("do")?;
         self.block(block)?;
         self.token("every")?;
-        self.plain(plain)?;
+        self.later(later)?;
         self.token(";")
     }
 
@@ -229,11 +229,11 @@ impl Printer {
     }
 
     #[cycle(statement)]
-    fn local(&mut self, sigs: &[SigNode], block: &BlockNode<Name>) -> Result<(), NoMemory>
-        ensures { OnOk result (self.new ≡ self.old ++ spaced (codes "signal" ∷ (comma_separated (map tokens_of_sig sigs.now) ++ tokens_of_block block.now))) }
+    fn local(&mut self, signals: &[SignalNode], block: &BlockNode<Name>) -> Result<(), NoMemory>
+        ensures { OnOk result (self.new ≡ self.old ++ spaced (codes "signal" ∷ (comma_separated (map tokens_of_signal signals.now) ++ tokens_of_block block.now))) }
     {
         self.token("signal")?;
-        self.list(sigs)?;
+        self.list(signals)?;
         self.block(block)
     }
 
@@ -282,11 +282,11 @@ impl Printer {
             Statement::Block(block) => self.block(block),
             Statement::Await(delay) => self.wait(delay),
             Statement::Every(delay, block) => self.delayed("every", delay, block),
-            Statement::DoEvery(block, plain) => self.do_every(block, plain),
+            Statement::DoEvery(block, later) => self.do_every(block, later),
             Statement::Abort(delay, block) => self.delayed("abort", delay, block),
             Statement::WeakAbort(delay, block) => self.delayed("weakabort", delay, block),
             Statement::Suspend(immediate, test, block) => self.suspended(*immediate, test, block),
-            Statement::Signal(sigs, block) => self.local(sigs.as_slice(), block),
+            Statement::Signal(signals, block) => self.local(signals.as_slice(), block),
             Statement::Trap(name, block) => self.trap(name, block),
             Statement::Break(trap) => self.leave(trap),
             Statement::Run(callee, bindings) => self.run(callee, bindings.as_slice()),
@@ -303,7 +303,7 @@ impl Printer {
 
     #[cycle(statement)]
     fn nodes(&mut self, nodes: &[StatementNode<Name>]) -> Result<(), NoMemory>
-        ensures { OnOk result (self.new ≡ self.old ++ spaced (joined (map tokens_of_node nodes.now))) }
+        ensures { OnOk result (self.new ≡ self.old ++ spaced (one_after_another (map tokens_of_node nodes.now))) }
     {
         for node in nodes {
             self.node(node)?;

@@ -2,7 +2,7 @@
 
 ghost use Rattle.std.specs.Prelude.{◌≡◌, ◌∷◌, [], true, codes, IfSome};
 ghost use Rattle.module_tree.specs.SourceWords.{is_written_name};
-ghost use Rattle.module_tree.specs.SourceForms.{fits_block, fits_decl};
+ghost use Rattle.module_tree.specs.SourceForms.{fits_block, fits_interface};
 ghost use Rattle.module_tree.specs.SourceNesting.{nesting_of_block};
 ghost use Rattle.module_tree.specs.Source.{is_source};
 
@@ -13,8 +13,8 @@ use hh_base::text::Text;
 use hh_base::value::{CombineWord, Kind, Pos, Value};
 use hh_base::value::Dir;
 use module_tree::source::{
-    AsyncNode, Binding, BlockNode, BodyNode, DeclNode, Delay, ExprAt, HostNode, ModuleNode,
-    Modules, NameAt, ParamNode, Plain, SigNode, Statement, StatementNode, Top,
+    AsyncNode, Binding, BlockNode, BodyNode, InterfaceNode, Delay, ExprAt, HostNode, ModuleNode,
+    Modules, NameAt, ParameterNode, Later, SignalNode, Statement, StatementNode, Part,
 };
 use host_expr::expr::{Expr, ExprNode, Op, Rel};
 use sqlite_items::{Boxed, Items};
@@ -189,10 +189,10 @@ fn at(alloc: Global, text: &str) -> Option<NameAt<Name>> {
 struct Parts {
     alloc: Global,
     exprs: Vec<Expr<Name>>,
-    delays: Vec<Plain<Name>>,
+    delays: Vec<Later<Name>>,
     statements: Items<StatementNode<Name>>,
     blocks: Items<BlockNode<Name>>,
-    signals: Items<SigNode>,
+    signals: Items<SignalNode>,
 }
 
 fn no_parts(alloc: Global) -> Parts {
@@ -216,13 +216,13 @@ impl Parts {
         Some(Delay::Immediate(self.expr()?))
     }
 
-    fn plain(&mut self) -> Option<Plain<Name>> {
+    fn later(&mut self) -> Option<Later<Name>> {
         self.delays.pop()
     }
 
     fn delay(&mut self) -> Option<Delay<Name>> {
         match self.delays.pop() {
-            Some(plain) => Some(Delay::Plain(plain)),
+            Some(later) => Some(Delay::Later(later)),
             None => self.immediate(),
         }
     }
@@ -242,13 +242,13 @@ impl Parts {
     }
 
     fn once(&mut self) -> Option<()> {
-        let plain = Plain::Once(self.expr()?);
-        self.delays.push(plain).ok()
+        let later = Later::Once(self.expr()?);
+        self.delays.push(later).ok()
     }
 
     fn count(&mut self, times: u8) -> Option<()> {
-        let plain = Plain::Count(times, self.expr()?);
-        self.delays.push(plain).ok()
+        let later = Later::Count(times, self.expr()?);
+        self.delays.push(later).ok()
     }
 
     fn signal(
@@ -258,7 +258,7 @@ impl Parts {
         combine: Option<CombineWord>,
     ) -> Option<()> {
         let name = name(self.alloc, "S")?;
-        let signal = SigNode {
+        let signal = SignalNode {
             pos: Pos(7),
             name,
             kind,
@@ -272,7 +272,7 @@ impl Parts {
         mem::replace(&mut self.blocks, Items::new(self.alloc))
     }
 
-    fn signals(&mut self) -> Items<SigNode> {
+    fn signals(&mut self) -> Items<SignalNode> {
         mem::replace(&mut self.signals, Items::new(self.alloc))
     }
 
@@ -305,7 +305,7 @@ impl Parts {
             "block" => Statement::Block(block),
             "trap" => Statement::Trap(name(self.alloc, "T")?, block),
             "signal" => Statement::Signal(self.signals(), block),
-            _ => Statement::DoEvery(block, self.plain()?),
+            _ => Statement::DoEvery(block, self.later()?),
         })
     }
 
@@ -536,41 +536,41 @@ fn pause_and_emit(alloc: Global, signal: &str) -> Option<BlockNode<Name>>
 }
 
 /// `out SIGNAL`.
-fn output(alloc: Global, signal: &str) -> Option<DeclNode>
-    ensures { IfSome result (λ d. fits_decl d ≡ is_written_name signal.now) }
+fn output(alloc: Global, signal: &str) -> Option<InterfaceNode>
+    ensures { IfSome result (λ d. fits_interface d ≡ is_written_name signal.now) }
 {
     let name = name(alloc, signal)?;
-    let sig = SigNode {
+    let signal = SignalNode {
         pos: Pos(13),
         name,
         kind: Kind::Pure,
         first: None,
         combine: None,
     };
-    Some(DeclNode {
+    Some(InterfaceNode {
         dir: Dir::Output,
-        sig,
+        signal,
     })
 }
 
 /// `module M(out O) { pause; emit O; }`.
 #[tactic(auto, using(crate::proofs::TestNames::m_is_written, crate::proofs::TestNames::o_is_written))]
-fn one_module(alloc: Global) -> Option<Items<Top<Name>>>
-    ensures { IfSome result (λ tops. is_source tops ≡ true) }
+fn one_module(alloc: Global) -> Option<Items<Part<Name>>>
+    ensures { IfSome result (λ parts. is_source parts ≡ true) }
 {
     let name = name(alloc, "M")?;
-    let mut decls = Items::new(alloc);
-    decls.push(output(alloc, "O")?).ok()?;
+    let mut interface = Items::new(alloc);
+    interface.push(output(alloc, "O")?).ok()?;
     let block = pause_and_emit(alloc, "O")?;
-    let mut tops = Items::new(alloc);
+    let mut parts = Items::new(alloc);
     let module = ModuleNode {
         pos: Pos(7),
         name,
-        decls,
+        interface,
         block,
     };
-    tops.push(Top::Module(module)).ok()?;
-    Some(tops)
+    parts.push(Part::Module(module)).ok()?;
+    Some(parts)
 }
 
 fn printed_module(alloc: Global) -> Option<Vec<u8>> {
@@ -585,12 +585,12 @@ fn prints_a_module(rt: HostRuntime) {
     assert!(rt; is_printed(printed_module(alloc), text));
 }
 
-fn body(alloc: Global) -> Option<Top<Name>> {
-    let mut params = Items::new(alloc);
+fn body(alloc: Global) -> Option<Part<Name>> {
+    let mut parameters = Items::new(alloc);
     for (text, kind) in [("a", Kind::Int), ("b", Kind::Text), ("c", Kind::Bool)] {
         let name = name(alloc, text)?;
-        params
-            .push(ParamNode {
+        parameters
+            .push(ParameterNode {
                 pos: Pos(7),
                 name,
                 kind,
@@ -599,45 +599,45 @@ fn body(alloc: Global) -> Option<Top<Name>> {
     }
     let name = name(alloc, "f")?;
     let expr = outermost(alloc, "a 1 +")?;
-    Some(Top::Body(BodyNode {
+    Some(Part::Body(BodyNode {
         pos: Pos(7),
         name,
-        params,
+        parameters,
         answer: Kind::Int,
         expr,
     }))
 }
 
-fn host(alloc: Global) -> Option<Top<Name>> {
+fn host(alloc: Global) -> Option<Part<Name>> {
     let name = name(alloc, "g")?;
-    let params = Items::from_slice(alloc, &[Kind::Text, Kind::Bool]).ok()?;
-    Some(Top::Host(HostNode {
+    let parameters = Items::from_slice(alloc, &[Kind::Text, Kind::Bool]).ok()?;
+    Some(Part::Host(HostNode {
         pos: Pos(7),
         token: Pos(2),
         name,
-        params,
+        parameters,
         answer: Kind::Pure,
     }))
 }
 
-fn module(alloc: Global) -> Option<Top<Name>> {
-    let mut decls = Items::new(alloc);
+fn module(alloc: Global) -> Option<Part<Name>> {
+    let mut interface = Items::new(alloc);
     for (text, dir) in [("A", Dir::Input), ("B", Dir::Both)] {
         let name = name(alloc, text)?;
-        let sig = SigNode {
+        let signal = SignalNode {
             pos: Pos(7),
             name,
             kind: Kind::Bool,
             first: Some(Value::Bool(false)),
             combine: Some(CombineWord::Or),
         };
-        decls.push(DeclNode { dir, sig }).ok()?;
+        interface.push(InterfaceNode { dir, signal }).ok()?;
     }
     let name = name(alloc, "N")?;
-    Some(Top::Module(ModuleNode {
+    Some(Part::Module(ModuleNode {
         pos: Pos(7),
         name,
-        decls,
+        interface,
         block: BlockNode {
             pos: Pos(7),
             statements: Items::new(alloc),
@@ -645,18 +645,18 @@ fn module(alloc: Global) -> Option<Top<Name>> {
     }))
 }
 
-fn declarations(alloc: Global) -> Option<Vec<Top<Name>>> {
-    let mut tops = Vec::new(alloc);
-    tops.push(body(alloc)?).ok()?;
-    tops.push(host(alloc)?).ok()?;
-    tops.push(module(alloc)?).ok()?;
-    Some(tops)
+fn declarations(alloc: Global) -> Option<Vec<Part<Name>>> {
+    let mut parts = Vec::new(alloc);
+    parts.push(body(alloc)?).ok()?;
+    parts.push(host(alloc)?).ok()?;
+    parts.push(module(alloc)?).ok()?;
+    Some(parts)
 }
 
 fn printed_declarations(alloc: Global) -> Option<Vec<u8>> {
-    let tops = declarations(alloc)?;
+    let parts = declarations(alloc)?;
     let mut printer = Printer::new(alloc);
-    printer.tops(&tops).ok()?;
+    printer.parts(&parts).ok()?;
     Some(printer.into_bytes())
 }
 

@@ -8,7 +8,7 @@ use Rattle.hh_base.specs.declared.value.Kind.TheVariants as kind
 use Rattle.hh_base.specs.declared.value.CombineWord.{CombineWord}
 use Rattle.module_tree.specs.SourceWords.{is_written_name, is_written_integer, is_written_text, is_written_value}
 use Rattle.hh_base.specs.Value.{is_valued, is_interface}
-use Rattle.module_tree.specs.SourceForms.{is_filled, if_there, fits_name, fits_sig, fits_decl, fits_param, fits_binding}
+use Rattle.module_tree.specs.SourceForms.{is_filled, if_there, fits_name, fits_signal, fits_interface, fits_parameter, fits_binding}
 use Rattle.grammar.specs.Language as l
 use Rattle.module_token.specs.declared.keyword.Keyword.{Keyword}
 use Rattle.module_token.specs.declared.keyword.Keyword.TheVariants as w
@@ -52,7 +52,7 @@ named = keeps_then name (λ n h. keeps_pure h)
 pub valued : Keeps (λ k. is_valued k ≡ true) g.valued
 valued = keeps_or (keeps_after (λ n. keeps_pure refl)) (keeps_or (keeps_after (λ n. keeps_pure refl)) (keeps_after (λ n. keeps_pure refl)))
 
-pub type : Keeps (λ (k : Kind). Unit {0}) g.type
+pub type : Keeps (λ (k : Kind). Unit {0}) g.kind
 type = record { of = λ a text ks lawful few h. tt }
 
 literal_by : (word : Keyword) (b : Bool) → Keeps (λ v. is_written_value v ≡ true) (g.literal_by word b)
@@ -85,17 +85,17 @@ any_kind = record { of = λ a text ks lawful few h. tt }
 any_combine : Keeps (λ (c : Option CombineWord). Unit {0}) (eg.optional g.behind_combine)
 any_combine = record { of = λ a text ks lawful few h. tt }
 
-pub sig : Keeps (λ s. fits_sig s ≡ true) g.sig
-sig = keeps_then name (λ n h. keeps_then any_kind (λ k (u : Unit {0}). keeps_then (keeps_optional (keeps_after (λ q. literal))) (λ v e. keeps_then any_combine (λ c (u : Unit {0}). keeps_pure (both h e)))))
+pub signal : Keeps (λ s. fits_signal s ≡ true) g.signal
+signal = keeps_then name (λ n h. keeps_then any_kind (λ k (u : Unit {0}). keeps_then (keeps_optional (keeps_after (λ q. literal))) (λ v e. keeps_then any_combine (λ c (u : Unit {0}). keeps_pure (both h e)))))
 
 direction : Keeps (λ d. is_interface d ≡ true) g.direction
 direction = keeps_or (keeps_after (λ n. keeps_pure refl)) (keeps_or (keeps_after (λ n. keeps_pure refl)) (keeps_after (λ n. keeps_pure refl)))
 
-pub decl : Keeps (λ d. fits_decl d ≡ true) g.decl
-decl = keeps_then direction (λ d h. keeps_then sig (λ s e. keeps_pure (both h e)))
+pub interface : Keeps (λ d. fits_interface d ≡ true) g.interface
+interface = keeps_then direction (λ d h. keeps_then signal (λ s e. keeps_pure (both h e)))
 
-pub param : Keeps (λ p. fits_param p ≡ true) g.param
-param = keeps_then name (λ n h. keeps_after (λ q. keeps_then valued (λ k e. keeps_pure (both h e))))
+pub parameter : Keeps (λ p. fits_parameter p ≡ true) g.parameter
+parameter = keeps_then name (λ n h. keeps_after (λ q. keeps_then valued (λ k e. keeps_pure (both h e))))
 
 pub binding : Keeps (λ b. fits_binding b ≡ true) g.binding
 binding = keeps_then named (λ a h. keeps_after (λ q. keeps_then named (λ b e. keeps_pure (both h e))))

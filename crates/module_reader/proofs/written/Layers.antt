@@ -6,7 +6,7 @@ use Rattle.module_tree.specs.declared.source.StatementNode.{StatementNode, roll-
 use Rattle.module_tree.specs.declared.source.Statement.{Statement, roll-Statement}
 use Rattle.module_tree.specs.declared.source.Statement.TheOpen as s
 use Rattle.module_tree.specs.declared.source.Statement.TheFolds.{fold-BlockNode, fold-StatementNode, fold-Statement, fold-roll-BlockNode, fold-roll-StatementNode, fold-roll-Statement, map-Statement}
-use Rattle.expression_reader.specs.Trees.{Name, at}
+use Rattle.expression_reader.specs.Trees.{Name, pos_at}
 use Rattle.module_reader.specs.Trees.{block_at}
 
 module _ {A : Type 0} (step : s.Statement-F Name A A A → A) (join : s.BlockNode-F Name A A A → A) where
@@ -28,5 +28,5 @@ module _ {A : Type 0} (step : s.Statement-F Name A A A → A) (join : s.BlockNod
   statement_layer p parts {x} rolls =
       fold-roll-StatementNode Name A A A step join (λ x. x.what) (record { pos = p; what = x }) ∙ ap of_statement (sym rolls) ∙ fold-roll-Statement Name A A A step join (λ x. x.what) parts
 
-  pub block_layer : (n : ℕ) (xs : List (StatementNode Name)) → of_block (block_at n xs) ≡ join (record { pos = at n; statements = map of_statement_node xs })
-  block_layer n xs = fold-roll-BlockNode Name A A A step join (λ x. x.what) (record { pos = at n; statements = xs })
+  pub block_layer : (n : ℕ) (xs : List (StatementNode Name)) → of_block (block_at n xs) ≡ join (record { pos = pos_at n; statements = map of_statement_node xs })
+  block_layer n xs = fold-roll-BlockNode Name A A A step join (λ x. x.what) (record { pos = pos_at n; statements = xs })

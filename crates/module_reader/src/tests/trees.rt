@@ -2,7 +2,7 @@
 
 use crate::read::read;
 use hh_base::name::Name;
-use module_tree::source::{BlockNode, BodyNode, Modules, Statement, Top};
+use module_tree::source::{BlockNode, BodyNode, Modules, Statement, Part};
 use host_expr::expr::{Expr, ExprNode, Op};
 use std::alloc::Global;
 use std::test::Fail;
@@ -19,8 +19,8 @@ fn read_short(alloc: Global, text: &str) -> Result<Modules, Fail> {
 
 /// The body that a text begins with.
 fn first_body(modules: &Modules) -> Option<&BodyNode<Name>> {
-    match modules.tops() {
-        [Top::Body(body), Top::Module(_)] => Some(body),
+    match modules.parts() {
+        [Part::Body(body), Part::Module(_)] => Some(body),
         _ => None,
     }
 }
@@ -154,8 +154,8 @@ fn then_block(block: &BlockNode<Name>) -> Option<&BlockNode<Name>> {
 
 /// Whether the two `if`s of a text, one in the other, have an `else`: the outer one and the inner one.
 fn elses(modules: &Modules) -> Option<(bool, bool)> {
-    match modules.tops() {
-        [Top::Module(module)] => {
+    match modules.parts() {
+        [Part::Module(module)] => {
             let inner = then_block(&module.block)?;
             let _test = then_block(inner)?;
             Some((has_else(&module.block), has_else(inner)))

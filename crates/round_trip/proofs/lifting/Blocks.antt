@@ -13,7 +13,7 @@ use Rattle.module_tree.specs.SourceNesting as nests
 use Rattle.module_tree.specs.SourceNesting.{largest, nesting_of_block}
 use Rattle.grammar.proofs.KindSets.{both as parts}
 use Rattle.module_token.specs.declared.punct.Punct.TheVariants as punct
-use Rattle.expression_reader.specs.Trees.{Name, at}
+use Rattle.expression_reader.specs.Trees.{Name, pos_at}
 use Rattle.module_reader.specs.Trees.{block_at}
 use Rattle.module_printer.specs.SourceTokens as tokens
 use Rattle.module_printer.specs.SourceTokens.{tokens_of_node}
@@ -127,9 +127,9 @@ statement_printed (layer.Suspend immediate x b) p =
     by_layer p (layer.Suspend immediate x b.0)
     (λ room h le. let q = parts _ _ h in lifts_right (lifts_right (lifts_right (lifts_right (lifts_right (lifts_right (lifts_right (lifts_right (lifts_right (lifts_right (lifts_right (lifts_right (lifts_right (lifts_left (suspend_lifts p room (g.block room) immediate x b.0 q.0 (first_of _ _ le) (b.1 room q.1 (second_of _ _ le)))))))))))))))))
 statement_printed (layer.Signal [] b) p = by_layer p (layer.Signal [] b.0) (λ room h le. absurd (let no : ⊥ = cc in no))
-statement_printed (layer.Signal (sig ∷ sigs) b) p =
-    by_layer p (layer.Signal (sig ∷ sigs) b.0)
-    (λ room h le. let q = parts _ _ h in lifts_right (lifts_right (lifts_right (lifts_right (lifts_right (lifts_right (lifts_right (lifts_right (lifts_right (lifts_right (lifts_right (lifts_right (lifts_right (lifts_right (lifts_left (local_lifts p (g.block room) sig sigs b.0 q.0 (b.1 room q.1 le)))))))))))))))))
+statement_printed (layer.Signal (signal ∷ signals) b) p =
+    by_layer p (layer.Signal (signal ∷ signals) b.0)
+    (λ room h le. let q = parts _ _ h in lifts_right (lifts_right (lifts_right (lifts_right (lifts_right (lifts_right (lifts_right (lifts_right (lifts_right (lifts_right (lifts_right (lifts_right (lifts_right (lifts_right (lifts_left (local_lifts p (g.block room) signal signals b.0 q.0 (b.1 room q.1 le)))))))))))))))))
 statement_printed (layer.Trap n b) p =
     by_layer p (layer.Trap n b.0)
     (λ room h le. let q = parts _ _ h in lifts_right (lifts_right (lifts_right (lifts_right (lifts_right (lifts_right (lifts_right (lifts_right (lifts_right (lifts_right (lifts_right (lifts_right (lifts_right (lifts_right (lifts_right (lifts_left (trap_lifts p (g.block room) n b.0 q.0 (b.1 room q.1 le))))))))))))))))))
@@ -151,7 +151,7 @@ module _ (p : Pos) (ns : List Node) where
 
   same_block : (n : ℕ) (xs : List (StatementNode Name)) → Same (map placeless_node) (map (λ z. z.0) ns) xs → Same placeless_block block_of (block_at n xs)
   same_block n xs e =
-      fold-roll-BlockNode Name (Statement Name) (BlockNode Name) (StatementNode Name) statement_step block_step node_step (record { pos = at n; statements = xs })
+      fold-roll-BlockNode Name (Statement Name) (BlockNode Name) (StatementNode Name) statement_step block_step node_step (record { pos = pos_at n; statements = xs })
       ∙ ap (λ z. block_at 0 z) e ∙ sym (fold-roll-BlockNode Name (Statement Name) (BlockNode Name) (StatementNode Name) statement_step block_step node_step (record { pos = p; statements = map (λ z. z.0) ns }))
 
   by_statements : (room : ℕ) → AllByRecursion (NodeLifts room) (map (λ z. z.0) ns) → Lifts (Same placeless_block block_of) (g.block (suc room)) (tokens.block_step (record { pos = p; statements = map tokens_of_node (map (λ z. z.0) ns) }))

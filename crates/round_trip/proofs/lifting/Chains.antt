@@ -5,8 +5,8 @@ use Rattle.grammar.specs.Tokens.{Tok}
 use Rattle.grammar.specs.Language.{◌>>=◌, pure, many}
 use Rattle.expression_reader.specs.declared.terminal.Terminal.{Terminal}
 use Rattle.expression_reader.specs.declared.operator.Operator.{Operator}
-use Rattle.expression_reader.specs.Trees.{Name, Term, joined, chained}
-use Rattle.module_printer.specs.ExpressionTokens.{Tokens}
+use Rattle.expression_reader.specs.Trees.{Name, Term, applied, chained}
+use Rattle.module_printer.specs.ExpressionTokens.{Lexemes}
 use Rattle.module_reader.specs.Reading.{to_grammar}
 use Rattle.expression_reader.specs.Rules as g
 use Rattle.expression_reader.specs.Rules.{Lang}
@@ -34,16 +34,16 @@ module _ {A : Type 0} (item : Lang A) where
     many_and_one xs x h.1 u h.3 n h.7 g,
   )
 
-chained_and_one : (a : Expr Name) (bs : List Term) (b : Term) → chained a (bs ++ b ∷ []) ≡ joined (chained a bs) b
+chained_and_one : (a : Expr Name) (bs : List Term) (b : Term) → chained a (bs ++ b ∷ []) ≡ applied (chained a bs) b
 chained_and_one a [] b = refl
-chained_and_one a (c ∷ bs) b = chained_and_one (joined a c) bs b
+chained_and_one a (c ∷ bs) b = chained_and_one (applied a c) bs b
 
 -- ---- the language of a chain
 
 module _ (sign : Lang (ℕ × Operator)) (operand : Lang (Expr Name)) where
   -- a chain, an operator and an operand
   abbrev and_one : Lang (Expr Name)
-  and_one = g.chain sign operand >>= (λ a. g.term sign operand >>= (λ b. pure (joined a b)))
+  and_one = g.chain sign operand >>= (λ a. g.term sign operand >>= (λ b. pure (applied a b)))
 
   record IsChain (tree : Expr Name) (text : List (Tok Terminal)) (ms : List ℕ) : Type 0 where
     first : Expr Name
@@ -103,25 +103,25 @@ module _ (sign : Lang (ℕ × Operator)) (operand : Lang (Expr Name)) where
         are_marks = glue ms h.3 h.4 c.front_marks c.back_marks c.back_marks [] e.3 e.4 h.6 c.are_marks (sym (append-nil c.back_marks)) refl e.6 e.8.2;
         is_first = c.is_first;
         are_more = many_and_one (g.term sign operand) c.more e.0 c.back e.1 c.back_marks e.3 c.are_more e.7;
-        is_tree = e.8.0 ∙ ap (λ z. joined z e.0) c.is_tree ∙ sym (chained_and_one c.first c.more e.0);
+        is_tree = e.8.0 ∙ ap (λ z. applied z e.0) c.is_tree ∙ sym (chained_and_one c.first c.more e.0);
       })
 
 module _ {A : Type 0} {P : A → Type 0} {s r : Lang A} where
-  pub lifts_into : {ws : Tokens} → ((a : A) (text : List (Tok Terminal)) (ms : List ℕ) → s a text ms → r a text ms) → Lifts P s ws → Lifts P r ws
+  pub lifts_into : {ws : Lexemes} → ((a : A) (text : List (Tok Terminal)) (ms : List ℕ) → s a text ms → r a text ms) → Lifts P s ws → Lifts P r ws
   lifts_into f h = record { lift = λ ts e. let x = h.lift ts e in record { tree = x.tree; marks = x.marks; is_text = f x.tree (map to_grammar ts) x.marks x.is_text; few = x.few; told = x.told } }
 
 -- ---- chains of words
 
 module _ {sign : Lang (ℕ × Operator)} {operand : Lang (Expr Name)} where
   -- one operator and operand more
-  pub lifts_chain : {P Q R : Expr Name → Type 0} {Z : ℕ × Operator → Type 0} {xs ys : Tokens} {w : List ℕ} → Lifts P (g.chain sign operand) xs → Lifts Z sign (w ∷ []) → Lifts R operand ys
-      → ((a b : Expr Name) (z : ℕ × Operator) → P a → Z z → R b → Q (joined a (z, b))) → Lifts Q (g.chain sign operand) (xs ++ w ∷ ys)
+  pub lifts_chain : {P Q R : Expr Name → Type 0} {Z : ℕ × Operator → Type 0} {xs ys : Lexemes} {w : List ℕ} → Lifts P (g.chain sign operand) xs → Lifts Z sign (w ∷ []) → Lifts R operand ys
+      → ((a b : Expr Name) (z : ℕ × Operator) → P a → Z z → R b → Q (applied a (z, b))) → Lifts Q (g.chain sign operand) (xs ++ w ∷ ys)
   lifts_chain {R = R} {Z = Z} f z h j =
       lifts_into (longer sign operand)
       (lifts_then f (λ a p. lifts_made (lifts_then {Q = λ (b : Term). Z b.0 × R b.1} z (λ n q. lifts_made h (λ b r. (q, r)))) (λ b e. j a b.1 b.0 p e.0 e.1)))
 
   -- an operand alone
-  pub lifts_alone : {P : Expr Name → Type 0} {ws : Tokens} → Lifts P operand ws → Lifts P (g.chain sign operand) ws
+  pub lifts_alone : {P : Expr Name → Type 0} {ws : Lexemes} → Lifts P operand ws → Lifts P (g.chain sign operand) ws
   lifts_alone h = lifts_into (λ a text ms x. closed sign operand a text ms (record {
     first = a;
     more = [];
@@ -140,6 +140,6 @@ module _ {sign : Lang (ℕ × Operator)} {operand : Lang (Expr Name)} where
 
 module _ {A B : Type 0} {P : A → Type 0} {s : Lang A} {part : Lang B} (make : A → Option B → A) (none : (a : A) → make a None ≡ a) where
   -- and does not
-  pub lifts_without : {ws : Tokens} → Lifts P s ws → Lifts P (s >>= (λ a. g.optional part >>= (λ b. pure (make a b)))) ws
+  pub lifts_without : {ws : Lexemes} → Lifts P s ws → Lifts P (s >>= (λ a. g.optional part >>= (λ b. pure (make a b)))) ws
   lifts_without h = lifts_into (λ a text ms x.
       (a, text, [], ms, [], sym (append-nil text), sym (append-nil ms), x, (None, [], [], [], [], refl, refl, inr (refl, refl, refl), (sym (none a), refl, refl)))) h

@@ -12,14 +12,14 @@ use Rattle.hh_base.specs.declared.value.CombineWord.TheVariants as combine
 use Rattle.hh_base.specs.declared.value.Dir.{Dir}
 use Rattle.hh_base.specs.declared.value.Dir.TheVariants as dir
 use Rattle.module_tree.specs.declared.source.NameAt.{NameAt}
-use Rattle.module_tree.specs.declared.source.SigNode.{SigNode}
-use Rattle.module_tree.specs.declared.source.DeclNode.{DeclNode}
-use Rattle.module_tree.specs.declared.source.ParamNode.{ParamNode}
+use Rattle.module_tree.specs.declared.source.SignalNode.{SignalNode}
+use Rattle.module_tree.specs.declared.source.InterfaceNode.{InterfaceNode}
+use Rattle.module_tree.specs.declared.source.ParameterNode.{ParameterNode}
 use Rattle.module_tree.specs.declared.source.Binding.{Binding}
 use Rattle.module_tree.specs.SourceWords.{is_written_name, is_written_text, is_written_value}
 use Rattle.module_tree.specs.SourceForms as tests
 use Rattle.hh_base.specs.Value.{is_valued, is_interface}
-use Rattle.module_tree.specs.SourceForms.{fits_name, fits_sig, fits_decl, fits_param, fits_binding}
+use Rattle.module_tree.specs.SourceForms.{fits_name, fits_signal, fits_interface, fits_parameter, fits_binding}
 use Rattle.grammar.specs.Language as l
 use Rattle.grammar.specs.Language.{◌or◌}
 use Rattle.grammar.proofs.KindSets.{both as parts}
@@ -27,13 +27,13 @@ use Rattle.module_token.specs.declared.keyword.Keyword.{Keyword}
 use Rattle.module_token.specs.declared.keyword.Keyword.TheVariants as w
 use Rattle.module_token.specs.declared.punct.Punct.TheVariants as punct
 use Rattle.module_token.specs.Spelling.{keyword_text}
-use Rattle.expression_reader.specs.Trees.{Name, at}
-use Rattle.module_printer.specs.ExpressionTokens.{Tokens, tokens_of_value}
-use Rattle.module_printer.specs.SourceTokens.{if_there, comma_separated, token_of_kind, tokens_of_dir, tokens_of_type, tokens_of_first, tokens_of_combine, tokens_of_sig, tokens_of_decl, tokens_of_param, tokens_of_binding, tokens_of_handler}
+use Rattle.expression_reader.specs.Trees.{Name, pos_at}
+use Rattle.module_printer.specs.ExpressionTokens.{Lexemes, tokens_of_value}
+use Rattle.module_printer.specs.SourceTokens.{if_there, comma_separated, token_of_kind, tokens_of_dir, tokens_of_type, tokens_of_first, tokens_of_combine, tokens_of_signal, tokens_of_interface, tokens_of_parameter, tokens_of_binding, tokens_of_handler}
 use Rattle.expression_reader.specs.Rules as eg
 use Rattle.module_reader.specs.Rules as g
 use Rattle.expression_reader.specs.Rules.{Lang}
-use Rattle.round_trip.specs.Places.{placeless_name, placeless_sig, placeless_decl, placeless_param, placeless_binding}
+use Rattle.round_trip.specs.Places.{placeless_name, placeless_signal, placeless_interface, placeless_parameter, placeless_binding}
 use Rattle.round_trip.proofs.lifting.Lifting.{Lifts, Same, lifts_then, lifts_made, lifts_left, lifts_right, lifts_pure, lifts_words, lifts_many}
 use Rattle.round_trip.proofs.lifting.OneToken.{lifts_punct, lifts_keyword, lifts_name, lifts_quoted, lifts_number, lifts_plus, lifts_min, lifts_max, lifts_and, lifts_or}
 use Rattle.round_trip.proofs.lifting.Expressions.{text_of}
@@ -45,15 +45,15 @@ Is b a = a ≡ b
 -- ---- lists with commas
 
 -- each has words that are a text of the language
-abbrev pub Each : {A B : Type 0} → (A → B) → (A → Tokens) → Lang A → List A → Type 0
+abbrev pub Each : {A B : Type 0} → (A → B) → (A → Lexemes) → Lang A → List A → Type 0
 Each f words item bs = AllByRecursion (λ b. Lifts (Same f b) item (words b)) bs
 
-module _ {A B : Type 0} (f : A → B) (words : A → Tokens) (item : Lang A) where
+module _ {A B : Type 0} (f : A → B) (words : A → Lexemes) (item : Lang A) where
   behind_commas : (bs : List A) → Each f words item bs → AllByRecursion (λ b. Lifts (Same f b) (eg.behind_comma item) (codes "," ∷ words b)) bs
   behind_commas [] h = tt
   behind_commas (b ∷ bs) h = (lifts_then (lifts_punct punct.Comma) (λ n u. h.0), behind_commas bs h.1)
 
-module _ {A B : Type 0} {f : A → B} (words : A → Tokens) {item : Lang A} where
+module _ {A B : Type 0} {f : A → B} (words : A → Lexemes) {item : Lang A} where
   pub lifts_listed : (b : A) (bs : List A) → Each f words item (b ∷ bs) → Lifts (Same (map f) (b ∷ bs)) (eg.listed item) (comma_separated (map words (b ∷ bs)))
   lifts_listed b bs h = lifts_then h.0 (λ a e. lifts_made (lifts_many words (λ ts. codes "," ∷ ts) bs (behind_commas f words item bs h.1)) (λ more k. λ i. e i ∷ k i))
 
@@ -61,7 +61,7 @@ module _ {A B : Type 0} {f : A → B} (words : A → Tokens) {item : Lang A} whe
   lifts_listed_or_none [] h = lifts_right (lifts_pure refl)
   lifts_listed_or_none (b ∷ bs) h = lifts_left (lifts_listed b bs h)
 
-module _ {A B : Type 0} (f : A → B) (words : A → Tokens) (item : Lang A) (test : A → Bool) (h : (b : A) → test b ≡ true → Lifts (Same f b) item (words b)) where
+module _ {A B : Type 0} (f : A → B) (words : A → Lexemes) (item : Lang A) (test : A → Bool) (h : (b : A) → test b ≡ true → Lifts (Same f b) item (words b)) where
   -- of a list whose items pass a test
   pub each_of : (bs : List A) → list_all test bs ≡ true → Each f words item bs
   each_of [] e = tt
@@ -70,11 +70,11 @@ module _ {A B : Type 0} (f : A → B) (words : A → Tokens) (item : Lang A) (te
 -- ---- names
 
 pub named_lifts : (n : NameAt Name) → fits_name n ≡ true → Lifts (Same placeless_name n) eg.named (n.name ∷ [])
-named_lifts n h = lifts_made (lifts_name n.name h) (λ a e. ap (λ (z : Name). let m : NameAt Name = record { pos = at 0; name = z } in m) e)
+named_lifts n h = lifts_made (lifts_name n.name h) (λ a e. ap (λ (z : Name). let m : NameAt Name = record { pos = pos_at 0; name = z } in m) e)
 
 -- ---- kinds
 
-type_by_lifts : (word : Keyword) (k : Kind) → Lifts (Is k) (g.type_by word k) (keyword_text word ∷ [])
+type_by_lifts : (word : Keyword) (k : Kind) → Lifts (Is k) (g.kind_by word k) (keyword_text word ∷ [])
 type_by_lifts word k = lifts_made (lifts_keyword word) (λ n u. refl)
 
 pub valued_lifts : (k : Kind) → is_valued k ≡ true → Lifts (Is k) g.valued (token_of_kind k ∷ [])
@@ -83,7 +83,7 @@ valued_lifts kind.Int h = lifts_left (type_by_lifts w.Int kind.Int)
 valued_lifts kind.Bool h = lifts_right (lifts_left (type_by_lifts w.Bool kind.Bool))
 valued_lifts kind.Text h = lifts_right (lifts_right (type_by_lifts w.Text kind.Text))
 
-pub type_lifts : (k : Kind) → Lifts (Is k) g.type (token_of_kind k ∷ [])
+pub type_lifts : (k : Kind) → Lifts (Is k) g.kind (token_of_kind k ∷ [])
 type_lifts kind.Pure = lifts_left (type_by_lifts w.Pure kind.Pure)
 type_lifts kind.Int = lifts_right (valued_lifts kind.Int refl)
 type_lifts kind.Bool = lifts_right (valued_lifts kind.Bool refl)
@@ -132,10 +132,10 @@ combine_lifts (Some c) = lifts_left (lifts_made (word_lifts c) (λ a e. ap Some 
 
 -- ---- signals
 
-made_sig : Name → Kind → Option Value → Option CombineWord → SigNode
-made_sig n k v c = record { pos = at 0; name = n; kind = k; first = v; combine = c }
+made_sig : Name → Kind → Option Value → Option CombineWord → SignalNode
+made_sig n k v c = record { pos = pos_at 0; name = n; kind = k; first = v; combine = c }
 
-pub sig_lifts : (s : SigNode) → fits_sig s ≡ true → Lifts (Same placeless_sig s) g.sig (tokens_of_sig s)
+pub sig_lifts : (s : SignalNode) → fits_signal s ≡ true → Lifts (Same placeless_signal s) g.signal (tokens_of_signal s)
 unfolding made_sig
 sig_lifts s h =
     let q = parts (is_written_name s.name) _ h in
@@ -152,19 +152,19 @@ direction_lifts dir.Output h = lifts_right (lifts_left (lifts_made (lifts_keywor
 direction_lifts dir.Both h = lifts_right (lifts_right (lifts_made (lifts_keyword w.Inout) (λ n u. refl)))
 direction_lifts dir.Local h = absurd (let no : ⊥ = cc in no)
 
-made_decl : Dir → SigNode → DeclNode
-made_decl d s = record { dir = d; sig = s }
+made_decl : Dir → SignalNode → InterfaceNode
+made_decl d s = record { dir = d; signal = s }
 
-pub decl_lifts : (d : DeclNode) → fits_decl d ≡ true → Lifts (Same placeless_decl d) g.decl (tokens_of_decl d)
+pub decl_lifts : (d : InterfaceNode) → fits_interface d ≡ true → Lifts (Same placeless_interface d) g.interface (tokens_of_interface d)
 unfolding made_decl
 decl_lifts d h =
     let q = parts (is_interface d.dir) _ h in
-    lifts_then (direction_lifts d.dir q.0) (λ z e. lifts_made (sig_lifts d.sig q.1) (λ s k. λ i. made_decl (e i) (k i)))
+    lifts_then (direction_lifts d.dir q.0) (λ z e. lifts_made (sig_lifts d.signal q.1) (λ s k. λ i. made_decl (e i) (k i)))
 
-made_param : Name → Kind → ParamNode
-made_param n k = record { pos = at 0; name = n; kind = k }
+made_param : Name → Kind → ParameterNode
+made_param n k = record { pos = pos_at 0; name = n; kind = k }
 
-pub param_lifts : (p : ParamNode) → fits_param p ≡ true → Lifts (Same placeless_param p) g.param (tokens_of_param p)
+pub param_lifts : (p : ParameterNode) → fits_parameter p ≡ true → Lifts (Same placeless_parameter p) g.parameter (tokens_of_parameter p)
 unfolding made_param
 param_lifts p h =
     let q = parts (is_written_name p.name) _ h in

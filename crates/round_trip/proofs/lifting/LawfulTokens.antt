@@ -1,7 +1,7 @@
 -- Tokens that words spell are lawful.
 use Rattle.std.proofs.Common.{◌≡◌, ℕ, true, false, List, [], ◌∷◌, map, sym, subst}
 use Rattle.hh_base.specs.Text.{IsText}
-use Rattle.module_token.specs.Tokens.{Tok}
+use Rattle.module_token.specs.Tokens.{TextToken}
 use Rattle.module_token.specs.declared.token.TokenKind.{TokenKind}
 use Rattle.module_token.specs.declared.token.TokenKind.TheVariants as token
 use Rattle.module_token.proofs.Unquoted.{value_of_quoted}
@@ -11,7 +11,7 @@ use Rattle.expression_reader.specs.Cursor.{spelled, value_of}
 use Rattle.expression_reader.specs.Terminals.{terminal, is_name, word}
 use Rattle.round_trip.specs.Lexemes.{IsLexeme, Spells}
 use Rattle.module_reader.specs.Reading.{to_grammar}
-use Rattle.module_printer.specs.ExpressionTokens.{Tokens}
+use Rattle.module_printer.specs.ExpressionTokens.{Lexemes}
 use Rattle.expression_reader.specs.Rules.{is_quoted}
 use Rattle.expression_reader.specs.Lawful.{IsLawful, Lawful}
 use Rattle.round_trip.proofs.lifting.TokenKinds.{written}
@@ -35,7 +35,7 @@ kind_lawful (token.Number value) place w h = record { name = λ e. never e; utf8
 kind_lawful token.Quoted place w h = record { name = λ e. never e; utf8 = λ e. never e; no_keyword = λ e. never e; quoted = λ e. subst IsText (sym (value_of_quoted h.0 w h.1 h.2)) h.1 }
 kind_lawful (token.Punct mark) place w h = record { name = λ e. never e; utf8 = λ e. never e; no_keyword = λ e. never e; quoted = λ e. never e }
 
-pub lawful : (ws : Tokens) (ts : List Tok) → Spells ws ts → Lawful (map to_grammar ts)
+pub lawful : (ws : Lexemes) (ts : List TextToken) → Spells ws ts → Lawful (map to_grammar ts)
 lawful [] [] h = tt
 lawful [] (t ∷ ts) h = absurd h
 lawful (w ∷ ws) [] h = absurd h

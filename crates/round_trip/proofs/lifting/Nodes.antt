@@ -6,7 +6,7 @@ use Rattle.host_expr.specs.declared.expr.ExprNode.TheOpen as e
 use Rattle.host_expr.specs.declared.expr.ExprNode.TheFolds.{fold-ExprNode, fold-roll-Expr, fold-roll-ExprNode, ind-Expr, map-ExprNode, map-Expr}
 use Rattle.module_tree.specs.SourceExpressions.{size_step, size_of}
 use Rattle.expression_reader.specs.declared.operator.Operator.{Operator}
-use Rattle.expression_reader.specs.Trees.{Name, at, node, binary_node, joined}
+use Rattle.expression_reader.specs.Trees.{Name, pos_at, node, binary_node, applied}
 use Rattle.round_trip.specs.Places.{placeless_expr}
 use Rattle.expression_reader.proofs.written.Layers.{expr_layer, of_parts}
 use Rattle.round_trip.proofs.lifting.Lifting.{Same}
@@ -22,7 +22,7 @@ placeless_parts = map-ExprNode Name (ExprNode Name) (Expr Name) (ExprNode Name) 
 
 pub placeless_layer : (n : ℕ) (parts : Parts) {x : ExprNode Name} → roll-ExprNode Name parts ≡ x → placeless_expr (node n x) ≡ node 0 (roll-ExprNode Name (placeless_parts parts))
 placeless_layer n parts {x} rolls =
-    fold-roll-Expr Name (ExprNode Name) (Expr Name) (roll-ExprNode Name) (λ x. node 0 x.node) (record { pos = at n; node = x }) ∙ ap (λ z. node 0 (placeless_node z)) (sym rolls)
+    fold-roll-Expr Name (ExprNode Name) (Expr Name) (roll-ExprNode Name) (λ x. node 0 x.node) (record { pos = pos_at n; node = x }) ∙ ap (λ z. node 0 (placeless_node z)) (sym rolls)
     ∙ ap (λ z. node 0 z) (fold-roll-ExprNode Name (ExprNode Name) (Expr Name) (roll-ExprNode Name) (λ x. node 0 x.node) parts)
 
 -- two nodes whose parts are
@@ -32,7 +32,7 @@ same_node n m parts others rolls same = placeless_layer n parts rolls ∙ ap (λ
 -- two operands and their operator
 pub same_joined : (op : Operator) (parts : Expr Name → Expr Name → Parts) → ((a b : Expr Name) → roll-ExprNode Name (parts a b) ≡ binary_node op a b)
     → ((a b : Expr Name) → placeless_parts (parts a b) ≡ parts (placeless_expr a) (placeless_expr b))
-    → (place : ℕ) (x y a b : Expr Name) (z : ℕ × Operator) → z.1 ≡ op → Same placeless_expr x a → Same placeless_expr y b → Same placeless_expr (node place (roll-ExprNode Name (parts x y))) (joined a (z, b))
+    → (place : ℕ) (x y a b : Expr Name) (z : ℕ × Operator) → z.1 ≡ op → Same placeless_expr x a → Same placeless_expr y b → Same placeless_expr (node place (roll-ExprNode Name (parts x y))) (applied a (z, b))
 same_joined op parts rolls maps place x y a b z is h g =
     ap (λ q. placeless_expr (node z.0 (binary_node q a b))) is ∙ same_node z.0 place (parts a b) (parts x y) (rolls a b) (maps a b ∙ (λ i. parts (h i) (g i)) ∙ sym (maps x y))
 

@@ -7,7 +7,7 @@ use Rattle.hh_base.specs.Literal as literal
 use Rattle.hh_base.specs.Text.{IsText}
 use Rattle.module_tree.specs.SourceWords.{is_written_name}
 use Rattle.grammar.specs.Language as l
-use Rattle.module_token.specs.Tokens.{Tok}
+use Rattle.module_token.specs.Tokens.{TextToken}
 use Rattle.module_token.proofs.Unquoted.{value_of_quoted}
 use Rattle.module_token.specs.declared.keyword.Keyword.{Keyword}
 use Rattle.module_token.specs.declared.punct.Punct.{Punct}
@@ -34,15 +34,15 @@ Only kind w = (what : TokenKind) → IsLexeme w what → what ≡ kind
 
 -- each token that the word spells is a text of the language
 abbrev Spelled : {A : Type 0} → (A → Type 0) → Lang A → List ℕ → Type 0
-Spelled {A} P s w = (t : Tok) → t.text ≡ w → IsLexeme w t.what → (a : A) × s a (to_grammar t ∷ []) (0 ∷ []) × P a
+Spelled {A} P s w = (t : TextToken) → t.text ≡ w → IsLexeme w t.what → (a : A) × s a (to_grammar t ∷ []) (0 ∷ []) × P a
 
 module _ {A : Type 0} {P : A → Type 0} (s : Lang A) {w : List ℕ} (f : Spelled P s w) where
-  plainly_lifted : (ts : List Tok) → Spells (w ∷ []) ts → Lifted P s ts
+  plainly_lifted : (ts : List TextToken) → Spells (w ∷ []) ts → Lifted P s ts
   plainly_lifted [] h = absurd h
   plainly_lifted (t ∷ []) h = let x = f t h.0 h.1 in record { tree = x.0; marks = 0 ∷ []; is_text = x.1; few = (omega arith, tt); told = x.2 }
   plainly_lifted (t ∷ u ∷ ts) h = absurd h.2
 
-  marked_lifted : (ts : List Tok) → Spells (w ∷ []) ts → Lifted P (l.counted s) ts
+  marked_lifted : (ts : List TextToken) → Spells (w ∷ []) ts → Lifted P (l.counted s) ts
   marked_lifted [] h = absurd h
   marked_lifted (t ∷ []) h = let x = f t h.0 h.1 in record { tree = x.0; marks = 1 ∷ []; is_text = (x.1, refl); few = (omega arith, tt); told = x.2 }
   marked_lifted (t ∷ u ∷ ts) h = absurd h.2
@@ -67,10 +67,10 @@ lifts_keyword keyword = lifts_plainly (g.keyword keyword) (terminal_spelled (t.K
 pub lifts_punct : (mark : Punct) → Lifts Any (g.punct mark) (punct_text mark ∷ [])
 lifts_punct mark = lifts_plainly (g.punct mark) (terminal_spelled (t.Punct mark) (token.Punct mark) (punct_text mark) refl (only_punct mark))
 
-pub lifts_keyword_mark : (keyword : Keyword) → Lifts Any (l.mark (t.Keyword keyword)) (keyword_text keyword ∷ [])
+pub lifts_keyword_mark : (keyword : Keyword) → Lifts Any (l.counted_token (t.Keyword keyword)) (keyword_text keyword ∷ [])
 lifts_keyword_mark keyword = lifts_counted (g.keyword keyword) (terminal_spelled (t.Keyword keyword) (token.Keyword keyword) (keyword_text keyword) refl (only_keyword keyword))
 
-pub lifts_punct_mark : (mark : Punct) → Lifts Any (l.mark (t.Punct mark)) (punct_text mark ∷ [])
+pub lifts_punct_mark : (mark : Punct) → Lifts Any (l.counted_token (t.Punct mark)) (punct_text mark ∷ [])
 lifts_punct_mark mark = lifts_counted (g.punct mark) (terminal_spelled (t.Punct mark) (token.Punct mark) (punct_text mark) refl (only_punct mark))
 
 -- ---- words that mean something behind `.` or `combine`

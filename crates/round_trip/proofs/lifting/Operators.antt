@@ -21,8 +21,8 @@ use Rattle.expression_reader.specs.declared.operator.Operator.{Operator}
 use Rattle.expression_reader.specs.declared.operator.Operator.TheVariants as o
 use Rattle.expression_reader.specs.declared.operator.Access.TheVariants as reading
 use Rattle.expression_reader.specs.declared.terminal.Terminal.TheVariants as t
-use Rattle.expression_reader.specs.Trees.{Name, node, binary_node, Term, Branches, joined, compared, chosen}
-use Rattle.module_printer.specs.ExpressionTokens.{Tokens, token_of_rel}
+use Rattle.expression_reader.specs.Trees.{Name, node, binary_node, Term, Branches, applied, compared, chosen}
+use Rattle.module_printer.specs.ExpressionTokens.{Lexemes, token_of_rel}
 use Rattle.expression_reader.specs.Rules as g
 use Rattle.expression_reader.specs.Rules.{Lang}
 use Rattle.round_trip.specs.Places.{placeless_expr}
@@ -58,14 +58,14 @@ module _ {op : Operator} {layer : Expr Name → Expr Name → Parts} (binary : I
   abbrev whole : Expr Name
   whole = node place (roll-ExprNode Name (layer a b))
 
-  is_same : (c d : Expr Name) (z : ℕ × Operator) → Same placeless_expr a c → z.1 ≡ op → Same placeless_expr b d → Same placeless_expr whole (joined c (z, d))
+  is_same : (c d : Expr Name) (z : ℕ × Operator) → Same placeless_expr a c → z.1 ≡ op → Same placeless_expr b d → Same placeless_expr whole (applied c (z, d))
   is_same c d z h s k = same_joined op layer binary.rolls binary.maps place a b c d z s h k
 
-  chain_lifts : {sign : Lang (ℕ × Operator)} {operand : Lang (Expr Name)} {xs ys : Tokens} {w : List ℕ} → Lifts (Same placeless_expr a) (g.chain sign operand) xs → Lifts (IsSign op) sign (w ∷ []) → Lifts (Same placeless_expr b) operand ys
+  chain_lifts : {sign : Lang (ℕ × Operator)} {operand : Lang (Expr Name)} {xs ys : Lexemes} {w : List ℕ} → Lifts (Same placeless_expr a) (g.chain sign operand) xs → Lifts (IsSign op) sign (w ∷ []) → Lifts (Same placeless_expr b) operand ys
       → Lifts (Same placeless_expr whole) (g.chain sign operand) (xs ++ w ∷ ys)
   chain_lifts f z h = lifts_chain f z h is_same
 
-  comparison_lifts : {inside : Lang (Expr Name)} {xs ys : Tokens} {w : List ℕ} → Lifts (Same placeless_expr a) (g.sum inside) xs → Lifts (IsSign op) g.relation (w ∷ []) → Lifts (Same placeless_expr b) (g.sum inside) ys
+  comparison_lifts : {inside : Lang (Expr Name)} {xs ys : Lexemes} {w : List ℕ} → Lifts (Same placeless_expr a) (g.sum inside) xs → Lifts (IsSign op) g.relation (w ∷ []) → Lifts (Same placeless_expr b) (g.sum inside) ys
       → Lifts (Same placeless_expr whole) (g.comparison inside) (xs ++ w ∷ ys)
   comparison_lifts {inside} {xs} {ys} {w} f z h =
       lifts_then f (λ c e. lifts_made {P = Behind c} (lifts_left (lifts_made (one c e) (λ b k. k))) (λ b k. k))
@@ -94,8 +94,8 @@ module _ (place : ℕ) (a b c : Expr Name) where
   abbrev choice : Expr Name
   choice = node place (roll-ExprNode Name (e.Choose a b c))
 
-  choice_lifts : {inside : Lang (Expr Name)} {xs ys zs : Tokens} → Lifts (Same placeless_expr a) (g.disjunction inside) xs → Lifts (Same placeless_expr b) (g.disjunction inside) ys → Lifts (Same placeless_expr c) (g.disjunction inside) zs
-      → Lifts (Same placeless_expr choice) (g.expr inside) (xs ++ codes "?" ∷ (ys ++ codes ":" ∷ zs))
+  choice_lifts : {inside : Lang (Expr Name)} {xs ys zs : Lexemes} → Lifts (Same placeless_expr a) (g.either inside) xs → Lifts (Same placeless_expr b) (g.either inside) ys → Lifts (Same placeless_expr c) (g.either inside) zs
+      → Lifts (Same placeless_expr choice) (g.expression inside) (xs ++ codes "?" ∷ (ys ++ codes ":" ∷ zs))
   choice_lifts {inside} {xs} {ys} {zs} f h k = lifts_then f (λ d e. lifts_made {P = Behind d} (lifts_left (lifts_made (both d e) (λ b s. s))) (λ b s. s))
     where
       Behind : Expr Name → Option Branches → Type 0
@@ -136,33 +136,33 @@ both_words place layer a b same h = let q = parts _ _ (sym same ∙ words_of pla
 
 node_printed : (y : e.ExprNode-F Name Node Part) → IsPrintedNode (roll-ExprNode Name (map-ExprNode Name Node Part (ExprNode Name) (Expr Name) (λ z. z.0) (λ z. z.0) y))
 node_printed (e.Int (pos n)) place h =
-    by_parts place (e.Int (pos n)) level.Atom _ 0 refl refl (_, _, refl) (λ room le. an_integer (g.inside room) (integer_lifts place n (words_of place (e.Int (pos n)) h)))
+    by_parts place (e.Int (pos n)) level.Operand _ 0 refl refl (_, _, refl) (λ room le. an_integer (g.inside room) (integer_lifts place n (words_of place (e.Int (pos n)) h)))
 node_printed (e.Int (negsuc n)) place h = absurd (let e = words_of place (e.Int (negsuc n)) h in let no : ⊥ = cc in no)
-node_printed (e.Bool b) place h = by_parts place (e.Bool b) level.Atom _ 0 refl refl (_, _, refl) (λ room le. a_truth (g.inside room) b (truth_lifts place b))
-node_printed (e.Text t) place h = by_parts place (e.Text t) level.Atom _ 0 refl refl (_, _, refl) (λ room le. a_text (g.inside room) (text_lifts place t (words_of place (e.Text t) h)))
+node_printed (e.Bool b) place h = by_parts place (e.Bool b) level.Operand _ 0 refl refl (_, _, refl) (λ room le. a_truth (g.inside room) b (truth_lifts place b))
+node_printed (e.Text t) place h = by_parts place (e.Text t) level.Operand _ 0 refl refl (_, _, refl) (λ room le. a_text (g.inside room) (text_lifts place t (words_of place (e.Text t) h)))
 node_printed (e.Now n) place h =
-    by_parts place (e.Now n) level.Atom _ 0 refl refl (_, _, refl)
+    by_parts place (e.Now n) level.Operand _ 0 refl refl (_, _, refl)
     (λ room le. a_signal (g.inside room) (signal_lifts place n (words_of place (e.Now n) h) reading.Now (codes "now") (λ m. e.Now m) x.rolls-Now (λ m. refl) (lifts_left (access_lifts t.Now reading.Now (codes "now") lifts_now))))
 node_printed (e.Pre n) place h =
-    by_parts place (e.Pre n) level.Atom _ 0 refl refl (_, _, refl)
+    by_parts place (e.Pre n) level.Operand _ 0 refl refl (_, _, refl)
     (λ room le. a_signal (g.inside room) (signal_lifts place n (words_of place (e.Pre n) h) reading.Pre (codes "pre") (λ m. e.Pre m) x.rolls-Pre (λ m. refl) (lifts_right (lifts_left (access_lifts t.Pre reading.Pre (codes "pre") lifts_pre)))))
 node_printed (e.NowVal n) place h =
-    by_parts place (e.NowVal n) level.Atom _ 0 refl refl (_, _, refl)
+    by_parts place (e.NowVal n) level.Operand _ 0 refl refl (_, _, refl)
     (λ room le. a_signal (g.inside room)
     (signal_lifts place n (words_of place (e.NowVal n) h) reading.NowVal (codes "nowval") (λ m. e.NowVal m) x.rolls-NowVal (λ m. refl) (lifts_right (lifts_right (lifts_left (access_lifts t.NowVal reading.NowVal (codes "nowval") lifts_nowval))))))
 node_printed (e.PreVal n) place h =
-    by_parts place (e.PreVal n) level.Atom _ 0 refl refl (_, _, refl)
+    by_parts place (e.PreVal n) level.Operand _ 0 refl refl (_, _, refl)
     (λ room le. a_signal (g.inside room)
     (signal_lifts place n (words_of place (e.PreVal n) h) reading.PreVal (codes "preval") (λ m. e.PreVal m) x.rolls-PreVal (λ m. refl) (lifts_right (lifts_right (lifts_right (access_lifts t.PreVal reading.PreVal (codes "preval") lifts_preval))))))
-node_printed (e.Arg n) place h = by_parts place (e.Arg n) level.Atom _ 0 refl refl (_, _, refl) (λ room le. a_signal (g.inside room) (parameter_lifts place n (words_of place (e.Arg n) h)))
+node_printed (e.Arg n) place h = by_parts place (e.Arg n) level.Operand _ 0 refl refl (_, _, refl) (λ room le. a_signal (g.inside room) (parameter_lifts place n (words_of place (e.Arg n) h)))
 node_printed (e.Not a) place h =
     let f = a.1 (words_of place (e.Not a.0) h) in
-    by_parts place (e.Not a.0) level.Unary _ (nesting_at level.Atom a.0) refl refl (_, _, refl)
-    (λ room le. lifts_left (lifts_then (lifts_punct_mark punct.Not) (λ n u. lifts_made (f.lifts room level.Atom le) (λ c k. same_node n place (e.Not c) (e.Not a.0) (x.rolls-Not c) (λ i. e.Not (k i))))))
+    by_parts place (e.Not a.0) level.Factor _ (nesting_at level.Operand a.0) refl refl (_, _, refl)
+    (λ room le. lifts_left (lifts_then (lifts_punct_mark punct.Not) (λ n u. lifts_made (f.lifts room level.Operand le) (λ c k. same_node n place (e.Not c) (e.Not a.0) (x.rolls-Not c) (λ i. e.Not (k i))))))
 node_printed (e.Neg a) place h =
     let f = a.1 (words_of place (e.Neg a.0) h) in
-    by_parts place (e.Neg a.0) level.Unary _ (nesting_at level.Atom a.0) refl refl (_, _, refl)
-    (λ room le. lifts_right (lifts_left (lifts_then (lifts_punct_mark punct.Minus) (λ n u. lifts_made (f.lifts room level.Atom le) (λ c k. same_node n place (e.Neg c) (e.Neg a.0) (x.rolls-Neg c) (λ i. e.Neg (k i)))))))
+    by_parts place (e.Neg a.0) level.Factor _ (nesting_at level.Operand a.0) refl refl (_, _, refl)
+    (λ room le. lifts_right (lifts_left (lifts_then (lifts_punct_mark punct.Minus) (λ n u. lifts_made (f.lifts room level.Operand le) (λ c k. same_node n place (e.Neg c) (e.Neg a.0) (x.rolls-Neg c) (λ i. e.Neg (k i)))))))
 node_printed (e.Arith arith_op.Add a b) place h =
     let f = both_words place (e.Arith arith_op.Add a.0 b.0) a b refl h in
     by_parts place (e.Arith arith_op.Add a.0 b.0) level.Sum _ (max (nesting_at level.Sum a.0) (nesting_at level.Product b.0)) refl refl (filled_append _ _ (f.0.filled level.Sum))
@@ -173,37 +173,37 @@ node_printed (e.Arith arith_op.Sub a b) place h =
     (λ room le. chain_lifts (arith_binary arith_op.Sub) place a.0 b.0 (f.0.lifts room level.Sum (first_of _ _ le)) (lifts_right (sign_lifts punct.Minus (o.Arith arith_op.Sub))) (f.1.lifts room level.Product (second_of _ _ le)))
 node_printed (e.Arith arith_op.Mul a b) place h =
     let f = both_words place (e.Arith arith_op.Mul a.0 b.0) a b refl h in
-    by_parts place (e.Arith arith_op.Mul a.0 b.0) level.Product _ (max (nesting_at level.Product a.0) (nesting_at level.Unary b.0)) refl refl (filled_append _ _ (f.0.filled level.Product))
-    (λ room le. chain_lifts (arith_binary arith_op.Mul) place a.0 b.0 (f.0.lifts room level.Product (first_of _ _ le)) (lifts_left (sign_lifts punct.Star (o.Arith arith_op.Mul))) (f.1.lifts room level.Unary (second_of _ _ le)))
+    by_parts place (e.Arith arith_op.Mul a.0 b.0) level.Product _ (max (nesting_at level.Product a.0) (nesting_at level.Factor b.0)) refl refl (filled_append _ _ (f.0.filled level.Product))
+    (λ room le. chain_lifts (arith_binary arith_op.Mul) place a.0 b.0 (f.0.lifts room level.Product (first_of _ _ le)) (lifts_left (sign_lifts punct.Star (o.Arith arith_op.Mul))) (f.1.lifts room level.Factor (second_of _ _ le)))
 node_printed (e.Arith arith_op.Div a b) place h =
     let f = both_words place (e.Arith arith_op.Div a.0 b.0) a b refl h in
-    by_parts place (e.Arith arith_op.Div a.0 b.0) level.Product _ (max (nesting_at level.Product a.0) (nesting_at level.Unary b.0)) refl refl (filled_append _ _ (f.0.filled level.Product))
-    (λ room le. chain_lifts (arith_binary arith_op.Div) place a.0 b.0 (f.0.lifts room level.Product (first_of _ _ le)) (lifts_right (lifts_left (sign_lifts punct.Slash (o.Arith arith_op.Div)))) (f.1.lifts room level.Unary (second_of _ _ le)))
+    by_parts place (e.Arith arith_op.Div a.0 b.0) level.Product _ (max (nesting_at level.Product a.0) (nesting_at level.Factor b.0)) refl refl (filled_append _ _ (f.0.filled level.Product))
+    (λ room le. chain_lifts (arith_binary arith_op.Div) place a.0 b.0 (f.0.lifts room level.Product (first_of _ _ le)) (lifts_right (lifts_left (sign_lifts punct.Slash (o.Arith arith_op.Div)))) (f.1.lifts room level.Factor (second_of _ _ le)))
 node_printed (e.Arith arith_op.Rem a b) place h =
     let f = both_words place (e.Arith arith_op.Rem a.0 b.0) a b refl h in
-    by_parts place (e.Arith arith_op.Rem a.0 b.0) level.Product _ (max (nesting_at level.Product a.0) (nesting_at level.Unary b.0)) refl refl (filled_append _ _ (f.0.filled level.Product))
-    (λ room le. chain_lifts (arith_binary arith_op.Rem) place a.0 b.0 (f.0.lifts room level.Product (first_of _ _ le)) (lifts_right (lifts_right (sign_lifts punct.Percent (o.Arith arith_op.Rem)))) (f.1.lifts room level.Unary (second_of _ _ le)))
+    by_parts place (e.Arith arith_op.Rem a.0 b.0) level.Product _ (max (nesting_at level.Product a.0) (nesting_at level.Factor b.0)) refl refl (filled_append _ _ (f.0.filled level.Product))
+    (λ room le. chain_lifts (arith_binary arith_op.Rem) place a.0 b.0 (f.0.lifts room level.Product (first_of _ _ le)) (lifts_right (lifts_right (sign_lifts punct.Percent (o.Arith arith_op.Rem)))) (f.1.lifts room level.Factor (second_of _ _ le)))
 node_printed (e.Compare r a b) place h =
     let f = both_words place (e.Compare r a.0 b.0) a b refl h in
-    by_parts place (e.Compare r a.0 b.0) level.Compare _ (max (nesting_at level.Sum a.0) (nesting_at level.Sum b.0)) refl refl (filled_append _ _ (f.0.filled level.Sum))
+    by_parts place (e.Compare r a.0 b.0) level.Comparison _ (max (nesting_at level.Sum a.0) (nesting_at level.Sum b.0)) refl refl (filled_append _ _ (f.0.filled level.Sum))
     (λ room le. comparison_lifts (compare_binary r) place a.0 b.0 (f.0.lifts room level.Sum (first_of _ _ le)) (relation_lifts r) (f.1.lifts room level.Sum (second_of _ _ le)))
 node_printed (e.And a b) place h =
     let f = both_words place (e.And a.0 b.0) a b refl h in
-    by_parts place (e.And a.0 b.0) level.And _ (max (nesting_at level.And a.0) (nesting_at level.Compare b.0)) refl refl (filled_append _ _ (f.0.filled level.And))
-    (λ room le. chain_lifts and_binary place a.0 b.0 (f.0.lifts room level.And (first_of _ _ le)) (sign_lifts punct.And o.And) (f.1.lifts room level.Compare (second_of _ _ le)))
+    by_parts place (e.And a.0 b.0) level.Both _ (max (nesting_at level.Both a.0) (nesting_at level.Comparison b.0)) refl refl (filled_append _ _ (f.0.filled level.Both))
+    (λ room le. chain_lifts and_binary place a.0 b.0 (f.0.lifts room level.Both (first_of _ _ le)) (sign_lifts punct.And o.And) (f.1.lifts room level.Comparison (second_of _ _ le)))
 node_printed (e.Or a b) place h =
     let f = both_words place (e.Or a.0 b.0) a b refl h in
-    by_parts place (e.Or a.0 b.0) level.Or _ (max (nesting_at level.Or a.0) (nesting_at level.And b.0)) refl refl (filled_append _ _ (f.0.filled level.Or))
-    (λ room le. chain_lifts or_binary place a.0 b.0 (f.0.lifts room level.Or (first_of _ _ le)) (sign_lifts punct.Or o.Or) (f.1.lifts room level.And (second_of _ _ le)))
+    by_parts place (e.Or a.0 b.0) level.Either _ (max (nesting_at level.Either a.0) (nesting_at level.Both b.0)) refl refl (filled_append _ _ (f.0.filled level.Either))
+    (λ room le. chain_lifts or_binary place a.0 b.0 (f.0.lifts room level.Either (first_of _ _ le)) (sign_lifts punct.Or o.Or) (f.1.lifts room level.Both (second_of _ _ le)))
 node_printed (e.Choose a b c) place h =
     let q = parts (has_written_words a.0 && has_written_words b.0) (has_written_words c.0) (words_of place (e.Choose a.0 b.0 c.0) h) in
     let r = parts (has_written_words a.0) (has_written_words b.0) q.0 in
     let f = a.1 r.0 in
     let k = b.1 r.1 in
     let j = c.1 q.1 in
-    by_parts place (e.Choose a.0 b.0 c.0) level.Choose _ (max (nesting_at level.Or a.0) (max (nesting_at level.Or b.0) (nesting_at level.Or c.0))) refl refl (filled_append _ _ (filled_append _ _ (f.filled level.Or)))
-    (λ room le. lifts_words (sym (append_assoc (words_at level.Or a.0) (codes "?" ∷ words_at level.Or b.0) (codes ":" ∷ words_at level.Or c.0)))
-    (choice_lifts place a.0 b.0 c.0 (f.lifts room level.Or (first_of _ _ le)) (k.lifts room level.Or (first_of _ _ (second_of _ _ le))) (j.lifts room level.Or (second_of _ _ (second_of _ _ le)))))
+    by_parts place (e.Choose a.0 b.0 c.0) level.Expression _ (max (nesting_at level.Either a.0) (max (nesting_at level.Either b.0) (nesting_at level.Either c.0))) refl refl (filled_append _ _ (filled_append _ _ (f.filled level.Either)))
+    (λ room le. lifts_words (sym (append_assoc (words_at level.Either a.0) (codes "?" ∷ words_at level.Either b.0) (codes ":" ∷ words_at level.Either c.0)))
+    (choice_lifts place a.0 b.0 c.0 (f.lifts room level.Either (first_of _ _ le)) (k.lifts room level.Either (first_of _ _ (second_of _ _ le))) (j.lifts room level.Either (second_of _ _ (second_of _ _ le)))))
 
 expr_printed : (y : e.Expr-F Name Node Part) → IsPrinted (roll-Expr Name (map-Expr Name Node Part (ExprNode Name) (Expr Name) (λ z. z.0) (λ z. z.0) y))
 expr_printed y = y.node.1 y.pos.0

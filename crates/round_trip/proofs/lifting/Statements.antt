@@ -25,10 +25,10 @@ use Rattle.module_token.specs.declared.keyword.Keyword.{Keyword}
 use Rattle.module_token.specs.declared.keyword.Keyword.TheVariants as w
 use Rattle.module_token.specs.declared.punct.Punct.TheVariants as punct
 use Rattle.module_token.specs.Spelling.{keyword_text}
-use Rattle.expression_reader.specs.Trees.{Name, at}
+use Rattle.expression_reader.specs.Trees.{Name, pos_at}
 use Rattle.module_reader.specs.Trees.{statement_at}
-use Rattle.module_printer.specs.ExpressionTokens.{Tokens}
-use Rattle.module_printer.specs.SourceTokens.{if_there, tokens_of_outermost, tokens_of_test, tokens_of_delay, tokens_of_binding, tokens_of_signal, tokens_of_handler, tokens_of_call, tokens_of_async, tokens_of_emission, tokens_of_run}
+use Rattle.module_printer.specs.ExpressionTokens.{Lexemes}
+use Rattle.module_printer.specs.SourceTokens.{if_there, tokens_of_outermost, tokens_of_test, tokens_of_delay, tokens_of_binding, tokens_of_answer, tokens_of_handler, tokens_of_call, tokens_of_async, tokens_of_emission, tokens_of_run}
 use Rattle.expression_reader.specs.Rules as eg
 use Rattle.module_reader.specs.Rules as g
 use Rattle.round_trip.specs.Places.{placeless_name, placeless_outermost, placeless_binding, placeless_block, statement_step, block_step, node_step}
@@ -75,7 +75,7 @@ second_of a b le = le_trans (le-max_right a b) le
 
 module _ (p : Pos) where
   simple_lifts : (word : Keyword) (parts : Layer) (what : Statement Name) → roll-Statement Name parts ≡ what → Lifts (Same placeless_node (whole p parts)) (g.simple word what) (keyword_text word ∷ codes ";" ∷ [])
-  simple_lifts word parts what rolls = lifts_then (lifts_keyword word) (λ n u. lifts_made (lifts_punct punct.Semicolon) (λ z v. same_statement (at n) p parts parts rolls refl))
+  simple_lifts word parts what rolls = lifts_then (lifts_keyword word) (λ n u. lifts_made (lifts_punct punct.Semicolon) (λ z v. same_statement (pos_at n) p parts parts rolls refl))
 
   pub nothing_lifts : Lifts (Same placeless_node (whole p layer.Nothing)) (g.simple w.Nothing s.Nothing) (codes "nothing" ∷ codes ";" ∷ [])
   nothing_lifts = simple_lifts w.Nothing layer.Nothing s.Nothing s.rolls-Nothing
@@ -89,7 +89,7 @@ module _ (p : Pos) where
   pub break_lifts : (n : NameAt Name) → fits_name n ≡ true → Lifts (Same placeless_node (whole p (layer.Break n))) g.break_out (codes "break" ∷ n.name ∷ codes ";" ∷ [])
   break_lifts n h =
       lifts_then (lifts_keyword w.Break)
-      (λ z u. lifts_then (named_lifts n h) (λ m e. lifts_made (lifts_punct punct.Semicolon) (λ y v. same_statement (at z) p (layer.Break m) (layer.Break n) (s.rolls-Break m) (λ i. s.Break (e i)))))
+      (λ z u. lifts_then (named_lifts n h) (λ m e. lifts_made (lifts_punct punct.Semicolon) (λ y v. same_statement (pos_at z) p (layer.Break m) (layer.Break n) (s.rolls-Break m) (λ i. s.Break (e i)))))
 
 module _ (p : Pos) (room : ℕ) where
   Emits : NameAt Name → Option (ExprAt Name) → NameAt Name × Option (ExprAt Name) → Type 0
@@ -105,17 +105,17 @@ module _ (p : Pos) (room : ℕ) where
   pub emit_lifts : (n : NameAt Name) (v : Option (ExprAt Name)) → (fits_name n && tests.if_there fits_expression v) ≡ true → nesting_of_value v ≤ room
       → Lifts (Same placeless_node (whole p (layer.Emit n v))) (g.emit room) (tokens_of_emission (codes "emit") n v)
   unfolding Emits
-  emit_lifts n v h le = lifts_then (lifts_keyword w.Emit) (λ z u. lifts_made (emission_lifts n v h le) (λ e k. same_statement (at z) p (layer.Emit e.0 e.1) (layer.Emit n v) (s.rolls-Emit e.0 e.1) (λ i. s.Emit (k.0 i) (k.1 i))))
+  emit_lifts n v h le = lifts_then (lifts_keyword w.Emit) (λ z u. lifts_made (emission_lifts n v h le) (λ e k. same_statement (pos_at z) p (layer.Emit e.0 e.1) (layer.Emit n v) (s.rolls-Emit e.0 e.1) (λ i. s.Emit (k.0 i) (k.1 i))))
 
   pub sustain_lifts : (n : NameAt Name) (v : Option (ExprAt Name)) → (fits_name n && tests.if_there fits_expression v) ≡ true → nesting_of_value v ≤ room
       → Lifts (Same placeless_node (whole p (layer.Sustain n v))) (g.sustain room) (tokens_of_emission (codes "sustain") n v)
   unfolding Emits
   sustain_lifts n v h le =
-      lifts_then (lifts_keyword w.Sustain) (λ z u. lifts_made (emission_lifts n v h le) (λ e k. same_statement (at z) p (layer.Sustain e.0 e.1) (layer.Sustain n v) (s.rolls-Sustain e.0 e.1) (λ i. s.Sustain (k.0 i) (k.1 i))))
+      lifts_then (lifts_keyword w.Sustain) (λ z u. lifts_made (emission_lifts n v h le) (λ e k. same_statement (pos_at z) p (layer.Sustain e.0 e.1) (layer.Sustain n v) (s.rolls-Sustain e.0 e.1) (λ i. s.Sustain (k.0 i) (k.1 i))))
 
   pub await_lifts : (d : Delay Name) → fits_delay d ≡ true → nesting_of_delay d ≤ room → Lifts (Same placeless_node (whole p (layer.Await d))) (g.await room) (codes "await" ∷ (tokens_of_delay d ++ codes ";" ∷ []))
   await_lifts d h le =
-      lifts_then (lifts_keyword w.Await) (λ z u. lifts_then (delay_lifts d room h le) (λ c e. lifts_made (lifts_punct punct.Semicolon) (λ y v. same_statement (at z) p (layer.Await c) (layer.Await d) (s.rolls-Await c) (λ i. s.Await (e i)))))
+      lifts_then (lifts_keyword w.Await) (λ z u. lifts_then (delay_lifts d room h le) (λ c e. lifts_made (lifts_punct punct.Semicolon) (λ y v. same_statement (pos_at z) p (layer.Await c) (layer.Await d) (s.rolls-Await c) (λ i. s.Await (e i)))))
 
   pub run_lifts : (n : NameAt Name) (bs : List (Binding Name)) → (fits_name n && list_all fits_binding bs) ≡ true → 1 ≤ room → Lifts (Same placeless_node (whole p (layer.Run n bs))) (g.run room) (tokens_of_run n bs)
   run_lifts n bs h le =
@@ -123,7 +123,7 @@ module _ (p : Pos) (room : ℕ) where
       lifts_then (lifts_keyword w.Run)
       (λ z u. lifts_then (named_lifts n q.0)
       (λ m e. lifts_then (lifts_round 0 (λ left k. lifts_listed_or_none tokens_of_binding bs (each_of placeless_binding tokens_of_binding g.binding fits_binding binding_lifts bs q.1)) room le)
-      (λ cs d. lifts_made (lifts_punct punct.Semicolon) (λ y v. same_statement (at z) p (layer.Run m cs) (layer.Run n bs) (s.rolls-Run m cs) (λ i. s.Run (e i) (d i))))))
+      (λ cs d. lifts_made (lifts_punct punct.Semicolon) (λ y v. same_statement (pos_at z) p (layer.Run m cs) (layer.Run n bs) (s.rolls-Run m cs) (λ i. s.Run (e i) (d i))))))
 
 -- ---- activities
 
@@ -133,7 +133,7 @@ each_argument (x ∷ xs) left h le =
     let q = parts (fits_expression x) (list_all fits_expression xs) h in
     (outermost_lifts x left q.0 (first_of _ _ le), each_argument xs left q.1 (second_of _ _ le))
 
-answer_lifts : (n : Option (NameAt Name)) (room : ℕ) → tests.if_there fits_name n ≡ true → 1 ≤ room → Lifts (Same (option_map placeless_name) n) (eg.optional (eg.in_round g.result room)) (if_there tokens_of_signal n)
+answer_lifts : (n : Option (NameAt Name)) (room : ℕ) → tests.if_there fits_name n ≡ true → 1 ≤ room → Lifts (Same (option_map placeless_name) n) (eg.optional (eg.in_round g.result room)) (if_there tokens_of_answer n)
 answer_lifts None room h le = lifts_right (lifts_pure refl)
 answer_lifts (Some n) room h le = lifts_left (lifts_made (lifts_round 0 (λ left k. named_lifts n h) room le) (λ a e. ap Some e))
 
@@ -141,7 +141,7 @@ made_async : Option (NameAt Name) → NameAt Name → List (ExprAt Name) → Opt
 made_async r f xs k u e = record { signal = r; body = f; args = xs; kill = k; suspend = u; resume = e }
 
 -- the words of an activity, one behind the other
-in_order : (s c k u r z : Tokens) → (((s ++ c) ++ ((k ++ u) ++ r)) ++ z) ≡ s ++ (c ++ (k ++ (u ++ (r ++ z))))
+in_order : (s c k u r z : Lexemes) → (((s ++ c) ++ ((k ++ u) ++ r)) ++ z) ≡ s ++ (c ++ (k ++ (u ++ (r ++ z))))
 in_order s c k u r z =
     append_assoc (s ++ c) ((k ++ u) ++ r) z ∙ append_assoc s c (((k ++ u) ++ r) ++ z) ∙ ap (λ x. s ++ (c ++ x)) (append_assoc (k ++ u) r z ∙ append_assoc k u (r ++ z))
 
@@ -170,7 +170,7 @@ module _ (p : Pos) (room : ℕ) (a : AsyncNode Name) (h : fits_async a ≡ true)
       let kill = tokens_of_handler (codes "kill") a.kill in
       let suspend = tokens_of_handler (codes "suspend") a.suspend in
       let resume = tokens_of_handler (codes "resume") a.resume in
-      lifts_words (sym (in_order (codes "async" ∷ if_there tokens_of_signal a.signal) (tokens_of_call a) kill suspend resume (codes ";" ∷ [])))
+      lifts_words (sym (in_order (codes "async" ∷ if_there tokens_of_answer a.signal) (tokens_of_call a) kill suspend resume (codes ";" ∷ [])))
       (lifts_then (lifts_keyword w.Async)
       (λ z u. lifts_then (answer_lifts a.signal room fits.answer (omega (arith, le)))
       (λ r hr. lifts_then (lifts_keyword w.Call)
@@ -180,4 +180,4 @@ module _ (p : Pos) (room : ℕ) (a : AsyncNode Name) (h : fits_async a ≡ true)
       (λ k hk. lifts_then (handler_lifts w.Suspend a.suspend fits.suspend)
       (λ t ht. lifts_then (handler_lifts w.Resume a.resume fits.resume)
       (λ e he. lifts_made (lifts_punct punct.Semicolon)
-      (λ m o. same_statement (at z) p (layer.Async (made_async r f xs k t e)) (layer.Async a) (s.rolls-Async (made_async r f xs k t e)) (λ i. s.Async (made_async (hr i) (hf i) (hx i) (hk i) (ht i) (he i)))))))))))))
+      (λ m o. same_statement (pos_at z) p (layer.Async (made_async r f xs k t e)) (layer.Async a) (s.rolls-Async (made_async r f xs k t e)) (λ i. s.Async (made_async (hr i) (hf i) (hx i) (hk i) (ht i) (he i)))))))))))))

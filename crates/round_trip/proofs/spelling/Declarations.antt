@@ -12,23 +12,23 @@ use Rattle.hh_base.specs.declared.value.Dir.{Dir}
 use Rattle.hh_base.specs.declared.value.Dir.TheVariants as dir
 use Rattle.module_tree.specs.declared.source.NameAt.{NameAt}
 use Rattle.module_tree.specs.declared.source.ExprAt.{ExprAt}
-use Rattle.module_tree.specs.declared.source.SigNode.{SigNode}
-use Rattle.module_tree.specs.declared.source.DeclNode.{DeclNode}
-use Rattle.module_tree.specs.declared.source.ParamNode.{ParamNode}
+use Rattle.module_tree.specs.declared.source.SignalNode.{SignalNode}
+use Rattle.module_tree.specs.declared.source.InterfaceNode.{InterfaceNode}
+use Rattle.module_tree.specs.declared.source.ParameterNode.{ParameterNode}
 use Rattle.module_tree.specs.declared.source.Binding.{Binding}
 use Rattle.module_tree.specs.declared.source.AsyncNode.{AsyncNode}
-use Rattle.module_tree.specs.declared.source.Plain.{Plain}
-use Rattle.module_tree.specs.declared.source.Plain.TheVariants as plain
+use Rattle.module_tree.specs.declared.source.Later.{Later}
+use Rattle.module_tree.specs.declared.source.Later.TheVariants as plain
 use Rattle.module_tree.specs.declared.source.Delay.{Delay}
 use Rattle.module_tree.specs.declared.source.Delay.TheVariants as delay
 use Rattle.module_tree.specs.SourceForms as tests
-use Rattle.module_tree.specs.SourceForms.{fits_name, fits_expression, fits_sig, fits_decl, fits_param, fits_plain, fits_delay, fits_binding, fits_async}
+use Rattle.module_tree.specs.SourceForms.{fits_name, fits_expression, fits_signal, fits_interface, fits_parameter, fits_later, fits_delay, fits_binding, fits_async}
 use Rattle.module_tree.specs.SourceWords.{is_written_text, is_written_value}
 use Rattle.module_token.specs.declared.keyword.Keyword.{Keyword}
 use Rattle.module_token.specs.declared.keyword.Keyword.TheVariants as k
 use Rattle.module_token.specs.declared.punct.Punct.TheVariants as p
 use Rattle.module_token.specs.Spelling.{keyword_text}
-use Rattle.module_printer.specs.SourceTokens.{if_there, token_of_kind, token_of_combine, tokens_of_dir, tokens_of_type, tokens_of_first, tokens_of_combine, tokens_of_sig, tokens_of_decl, tokens_of_param, tokens_of_outermost, tokens_of_test, tokens_of_plain, tokens_of_delay, tokens_of_binding, tokens_of_signal, tokens_of_handler, tokens_of_call, tokens_of_handlers, tokens_of_async, tokens_of_emission, tokens_of_run}
+use Rattle.module_printer.specs.SourceTokens.{if_there, token_of_kind, token_of_combine, tokens_of_dir, tokens_of_type, tokens_of_first, tokens_of_combine, tokens_of_signal, tokens_of_interface, tokens_of_parameter, tokens_of_outermost, tokens_of_test, tokens_of_later, tokens_of_delay, tokens_of_binding, tokens_of_answer, tokens_of_handler, tokens_of_call, tokens_of_handlers, tokens_of_async, tokens_of_emission, tokens_of_run}
 use Rattle.round_trip.proofs.spelling.Blanks.{and_true}
 use Rattle.round_trip.proofs.spelling.Words.{IsSpelt, Spelt, name, plain as ascii, keyword, mark, number, text, none, more, single, both, closed, enclosed, commas, all_passed, optional}
 use Rattle.round_trip.proofs.spelling.Expressions.{first_value, expression}
@@ -68,16 +68,16 @@ combination : (c : Option CombineWord) → Spelt (if_there tokens_of_combine c)
 combination None = none
 combination (Some c) = more (keyword k.Combine) (single (combine_word c))
 
-pub sig : (s : SigNode) → fits_sig s ≡ true → Spelt (tokens_of_sig s)
-sig s h =
+pub signal : (s : SignalNode) → fits_signal s ≡ true → Spelt (tokens_of_signal s)
+signal s h =
     let q = and_true _ _ h in
     more (name s.name q.0) (both (both (type s.kind) (optional tokens_of_first is_written_value (λ v e. more (mark p.Equal) (first_value v e)) s.first q.1)) (combination s.combine))
 
-pub decl : (d : DeclNode) → fits_decl d ≡ true → Spelt (tokens_of_decl d)
-decl d h = both (direction d.dir) (sig d.sig (and_true _ _ h).1)
+pub interface : (d : InterfaceNode) → fits_interface d ≡ true → Spelt (tokens_of_interface d)
+interface d h = both (direction d.dir) (signal d.signal (and_true _ _ h).1)
 
-pub param : (x : ParamNode) → fits_param x ≡ true → Spelt (tokens_of_param x)
-param x h = more (name x.name (and_true _ _ h).0) (more (mark p.Colon) (single (kind_word x.kind)))
+pub parameter : (x : ParameterNode) → fits_parameter x ≡ true → Spelt (tokens_of_parameter x)
+parameter x h = more (name x.name (and_true _ _ h).0) (more (mark p.Colon) (single (kind_word x.kind)))
 
 -- ---- expressions and delays
 
@@ -90,14 +90,14 @@ test x h = enclosed (outermost x h)
 count_within : (n : ℕ) → (nat_le 1 n && nat_le n 64) ≡ true → n ≤ 2 ^ 63
 count_within n h = let most : n ≤ 64 = leb-true n 64 (and_true (nat_le 1 n) (nat_le n 64) h).1 in omega (arith, most)
 
-pub plain_delay : (d : Plain Name) → fits_plain d ≡ true → Spelt (tokens_of_plain d)
+pub plain_delay : (d : Later Name) → fits_later d ≡ true → Spelt (tokens_of_later d)
 plain_delay (plain.Once x) h = test x h
 plain_delay (plain.Count n x) h =
     let q = and_true _ _ h in
     more (keyword k.Count) (enclosed (more (number n (count_within n q.0)) (more (mark p.Comma) (outermost x q.1))))
 
 pub any_delay : (d : Delay Name) → fits_delay d ≡ true → Spelt (tokens_of_delay d)
-any_delay (delay.Plain d) h = plain_delay d h
+any_delay (delay.Later d) h = plain_delay d h
 any_delay (delay.Immediate x) h = more (keyword k.Immediate) (test x h)
 
 -- ---- emissions, runs and calls
@@ -145,4 +145,4 @@ handlers a h = both (both (handler k.Kill a.kill h.kill) (handler k.Suspend a.su
 pub async : (a : AsyncNode Name) → fits_async a ≡ true → Spelt (tokens_of_async a)
 async a h =
     let f = parts a h in
-    closed (both (both (more (keyword k.Async) (optional tokens_of_signal fits_name (λ n e. enclosed (single (name n.name e))) a.signal f.signal)) (call a f)) (handlers a f)) p.Semicolon
+    closed (both (both (more (keyword k.Async) (optional tokens_of_answer fits_name (λ n e. enclosed (single (name n.name e))) a.signal f.signal)) (call a f)) (handlers a f)) p.Semicolon

@@ -20,7 +20,7 @@ use Rattle.module_tree.specs.SourceExpressions.{words_step, has_written_words, i
 use Rattle.module_tree.specs.SourceWords.{is_written_name, is_written_number, is_written_integer, is_written_value}
 use Rattle.module_token.specs.declared.keyword.Keyword.TheVariants as k
 use Rattle.module_token.specs.declared.punct.Punct.TheVariants as p
-use Rattle.module_printer.specs.ExpressionTokens.{Tokens, in_parentheses, tokens_of_integer, token_of_truth, tokens_of_value, token_of_op, token_of_rel, tokens_of_read, node_step, written, written_node, tokens_of_expression}
+use Rattle.module_printer.specs.ExpressionTokens.{Lexemes, in_parentheses, tokens_of_integer, token_of_truth, tokens_of_value, token_of_op, token_of_rel, tokens_of_read, node_step, written, written_node, tokens_of_expression}
 use Rattle.round_trip.proofs.spelling.Blanks.{and_true}
 use Rattle.round_trip.proofs.spelling.Words.{IsSpelt, Spelt, name, plain, keyword, mark, number, text, more, single, both, enclosed}
 
@@ -107,13 +107,13 @@ Part = (x : Expr Name) × IsRight x
 words_in : Layer → e.ExprNode-F Name Bool Bool
 words_in = map-ExprNode Name (ExprNode Name) (Expr Name) Bool Bool node_has_words has_written_words
 
-written_in : Layer → e.ExprNode-F Name (Levelled Tokens) (Levelled Tokens)
-written_in = map-ExprNode Name (ExprNode Name) (Expr Name) (Levelled Tokens) (Levelled Tokens) written_node written
+written_in : Layer → e.ExprNode-F Name (Levelled Lexemes) (Levelled Lexemes)
+written_in = map-ExprNode Name (ExprNode Name) (Expr Name) (Levelled Lexemes) (Levelled Lexemes) written_node written
 
 by_layer : (y : Layer) → (words_step (words_in y) ≡ true → Spelt (levelled_step in_parentheses node_step (written_in y)).value) → IsRightNode (roll-ExprNode Name y)
 unfolding node_has_words words_in written_in
 by_layer y f h =
-    subst (λ (l : Levelled Tokens). Spelt l.value) (sym (fold-roll-ExprNode Name (Levelled Tokens) (Levelled Tokens) (levelled_step in_parentheses node_step) (λ x. x.node) y))
+    subst (λ (l : Levelled Lexemes). Spelt l.value) (sym (fold-roll-ExprNode Name (Levelled Lexemes) (Levelled Lexemes) (levelled_step in_parentheses node_step) (λ x. x.node) y))
     (f (sym (fold-roll-ExprNode Name Bool Bool words_step (λ x. x.node) y) ∙ h))
 
 right_node : (y : e.ExprNode-F Name Node Part) → IsRightNode (roll-ExprNode Name (map-ExprNode Name Node Part (ExprNode Name) (Expr Name) (λ n. n.0) (λ n. n.0) y))
@@ -130,22 +130,22 @@ right_node (e.Pre n) = by_layer (e.Pre n) (read n (codes "pre") pre)
 right_node (e.NowVal n) = by_layer (e.NowVal n) (read n (codes "nowval") nowval)
 right_node (e.PreVal n) = by_layer (e.PreVal n) (read n (codes "preval") preval)
 right_node (e.Arg n) = by_layer (e.Arg n) (λ h. single (name n h))
-right_node (e.Not a) = by_layer (e.Not a.0) (λ h. more (mark p.Not) (part level.Atom a.0 a.1 h))
-right_node (e.Neg a) = by_layer (e.Neg a.0) (λ h. more (mark p.Minus) (part level.Atom a.0 a.1 h))
+right_node (e.Not a) = by_layer (e.Not a.0) (λ h. more (mark p.Not) (part level.Operand a.0 a.1 h))
+right_node (e.Neg a) = by_layer (e.Neg a.0) (λ h. more (mark p.Minus) (part level.Operand a.0 a.1 h))
 right_node (e.Arith o a b) = by_layer (e.Arith o a.0 b.0) (λ h. let q = and_true _ _ h in both (part (level_of_op o) a.0 a.1 q.0) (more (operator o) (part (right_of_op o) b.0 b.1 q.1)))
 right_node (e.Compare r a b) = by_layer (e.Compare r a.0 b.0) (λ h. let q = and_true _ _ h in both (part level.Sum a.0 a.1 q.0) (more (relation r) (part level.Sum b.0 b.1 q.1)))
-right_node (e.And a b) = by_layer (e.And a.0 b.0) (λ h. let q = and_true _ _ h in both (part level.And a.0 a.1 q.0) (more (mark p.And) (part level.Compare b.0 b.1 q.1)))
-right_node (e.Or a b) = by_layer (e.Or a.0 b.0) (λ h. let q = and_true _ _ h in both (part level.Or a.0 a.1 q.0) (more (mark p.Or) (part level.And b.0 b.1 q.1)))
+right_node (e.And a b) = by_layer (e.And a.0 b.0) (λ h. let q = and_true _ _ h in both (part level.Both a.0 a.1 q.0) (more (mark p.And) (part level.Comparison b.0 b.1 q.1)))
+right_node (e.Or a b) = by_layer (e.Or a.0 b.0) (λ h. let q = and_true _ _ h in both (part level.Either a.0 a.1 q.0) (more (mark p.Or) (part level.Both b.0 b.1 q.1)))
 right_node (e.Choose a b c) =
     by_layer (e.Choose a.0 b.0 c.0)
     (λ h. let q = and_true _ _ h in let r = and_true _ _ q.0 in
-    both (both (part level.Or a.0 a.1 r.0) (more (mark p.Question) (part level.Or b.0 b.1 r.1))) (more (mark p.Colon) (part level.Or c.0 c.1 q.1)))
+    both (both (part level.Either a.0 a.1 r.0) (more (mark p.Question) (part level.Either b.0 b.1 r.1))) (more (mark p.Colon) (part level.Either c.0 c.1 q.1)))
 
 right_part : (y : e.Expr-F Name Node Part) → IsRight (roll-Expr Name (map-Expr Name Node Part (ExprNode Name) (Expr Name) (λ n. n.0) (λ n. n.0) y))
 unfolding node_has_words
 right_part y h =
     let x : e.Expr-F Name (ExprNode Name) (Expr Name) = record { pos = y.pos; node = y.node.0 } in
-    subst (λ (l : Levelled Tokens). Spelt l.value) (sym (fold-roll-Expr Name (Levelled Tokens) (Levelled Tokens) (levelled_step in_parentheses node_step) (λ x. x.node) x))
+    subst (λ (l : Levelled Lexemes). Spelt l.value) (sym (fold-roll-Expr Name (Levelled Lexemes) (Levelled Lexemes) (levelled_step in_parentheses node_step) (λ x. x.node) x))
     (y.node.1 (sym (fold-roll-Expr Name Bool Bool words_step (λ x. x.node) x) ∙ h))
 
 is_right : (x : Expr Name) → IsRight x

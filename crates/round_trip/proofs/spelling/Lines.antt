@@ -5,7 +5,7 @@ use Rattle.std.specs.Str.{IsUtf8}
 use Rattle.std.proofs.lemmas.Str.{IsUtf8-append, IsUtf8-from_ascii, IsUtf8-nil}
 use Rattle.std.proofs.lemmas.Str.Ascii.{IsAscii-nil, IsAscii-cons}
 use Rattle.module_token.specs.Gap.{is_blank}
-use Rattle.module_token.specs.Tokens.{Tok, Reads, ended, passed, taken}
+use Rattle.module_token.specs.Tokens.{TextToken, Tokenizes, ended, passed, taken}
 use Rattle.round_trip.specs.Lexemes.{Spells}
 use Rattle.module_printer.specs.Printed.{spaced, line_of}
 use Rattle.round_trip.proofs.spelling.Blanks.{blank_ascii, before_blank}
@@ -14,7 +14,7 @@ use Rattle.round_trip.proofs.spelling.Words.{IsSpelt, Spelt}
 
 -- the text is UTF-8, and has the tokens that these words spell, wherever it stands
 abbrev pub Reading : List ℕ → List (List ℕ) → Type 0
-Reading text words = IsUtf8 text × ((at : ℕ) → (ts : List Tok) × Reads at text ts None × Spells words ts)
+Reading text words = IsUtf8 text × ((at : ℕ) → (ts : List TextToken) × Tokenizes at text ts None × Spells words ts)
 
 pub nothing : Reading [] []
 nothing = (IsUtf8-nil, λ at. ([], ended, tt))
@@ -30,7 +30,7 @@ module _ (b : ℕ) (text : List ℕ) (words : List (List ℕ)) (blank : is_blank
   behind_word : (w : List ℕ) → IsSpelt w → Reading (b ∷ text) words → Reading (w ++ b ∷ text) (w ∷ words)
   behind_word w spelt reads =
       let lexeme = spelt.of in
-      let text_of : (at : ℕ) → (ts : List Tok) × Reads at (w ++ b ∷ text) ts None × Spells (w ∷ words) ts =
+      let text_of : (at : ℕ) → (ts : List TextToken) × Tokenizes at (w ++ b ∷ text) ts None × Spells (w ∷ words) ts =
       λ at. let q = reads.1 (at + length w) in (record { pos = at; what = lexeme.0; text = w } ∷ q.0, taken w (b ∷ text) lexeme.0 (before_blank w lexeme.0 b text blank lexeme.1) q.1, (refl, lexeme.1, q.2)) in
       (IsUtf8-append w (b ∷ text) (lexeme_utf8 w lexeme.0 lexeme.1) reads.0, text_of)
 

@@ -8,15 +8,15 @@ use Rattle.module_tree.specs.declared.source.Statement.{Statement, roll-Statemen
 use Rattle.module_tree.specs.declared.source.Statement.TheOpen as s
 use Rattle.module_tree.specs.declared.source.Statement.TheFolds.{fold-Statement, fold-StatementNode, fold-roll-Statement, fold-roll-StatementNode, fold-roll-BlockNode, ind-BlockNode, map-Statement, map-StatementNode, map-BlockNode}
 use Rattle.module_tree.specs.SourceForms as tests
-use Rattle.module_tree.specs.SourceForms.{fits_sig, fits_block}
+use Rattle.module_tree.specs.SourceForms.{fits_signal, fits_block}
 use Rattle.module_token.specs.declared.keyword.Keyword.TheVariants as k
 use Rattle.module_token.specs.declared.punct.Punct.TheVariants as p
-use Rattle.module_printer.specs.ExpressionTokens.{Tokens}
+use Rattle.module_printer.specs.ExpressionTokens.{Lexemes}
 use Rattle.module_printer.specs.SourceTokens as tokens
-use Rattle.module_printer.specs.SourceTokens.{joined, separated, immediate_word, tokens_of_sig, tokens_of_statement, tokens_of_node, tokens_of_block}
+use Rattle.module_printer.specs.SourceTokens.{one_after_another, separated, immediate_word, tokens_of_signal, tokens_of_statement, tokens_of_node, tokens_of_block}
 use Rattle.round_trip.proofs.spelling.Blanks.{and_true}
 use Rattle.round_trip.proofs.spelling.Words.{Spelt, name, keyword, mark, none, more, single, both, closed, commas, all_passed}
-use Rattle.round_trip.proofs.spelling.Declarations.{sig, test, plain_delay, any_delay, emission, run, async}
+use Rattle.round_trip.proofs.spelling.Declarations.{signal, test, plain_delay, any_delay, emission, run, async}
 
 abbrev Name : Type 0
 Name = List ℕ
@@ -60,13 +60,13 @@ Block = (x : BlockNode Name) × IsRightBlock x
 fits_in : Layer → s.Statement-F Name Bool Bool Bool
 fits_in = map-Statement Name (Statement Name) (BlockNode Name) (StatementNode Name) Bool Bool Bool fits_statement fits_block fits_node
 
-tokens_in : Layer → s.Statement-F Name Tokens Tokens Tokens
-tokens_in = map-Statement Name (Statement Name) (BlockNode Name) (StatementNode Name) Tokens Tokens Tokens tokens_of_statement tokens_of_block tokens_of_node
+tokens_in : Layer → s.Statement-F Name Lexemes Lexemes Lexemes
+tokens_in = map-Statement Name (Statement Name) (BlockNode Name) (StatementNode Name) Lexemes Lexemes Lexemes tokens_of_statement tokens_of_block tokens_of_node
 
 by_layer : (y : Layer) → (tests.statement_step (fits_in y) ≡ true → Spelt (tokens.statement_step (tokens_in y))) → IsRight (roll-Statement Name y)
 unfolding fits_statement fits_node fits_in tokens_in
 by_layer y f h =
-    subst Spelt (sym (fold-roll-Statement Name Tokens Tokens Tokens tokens.statement_step tokens.block_step (λ n. n.what) y))
+    subst Spelt (sym (fold-roll-Statement Name Lexemes Lexemes Lexemes tokens.statement_step tokens.block_step (λ n. n.what) y))
     (f (sym (fold-roll-Statement Name Bool Bool Bool tests.statement_step tests.block_step (λ n. n.what) y) ∙ h))
 
 -- ---- statements
@@ -106,9 +106,9 @@ right_statement (s.Abort d b) = by_layer (s.Abort d b.0) (λ h. let q = and_true
 right_statement (s.WeakAbort d b) = by_layer (s.WeakAbort d b.0) (λ h. let q = and_true _ _ h in more (keyword k.WeakAbort) (both (any_delay d q.0) (b.1 q.1)))
 right_statement (s.Suspend i x b) =
     by_layer (s.Suspend i x b.0) (λ h. let q = and_true _ _ h in more (keyword k.Suspend) (both (both (immediate i) (test x q.0)) (b.1 q.1)))
-right_statement (s.Signal sigs b) =
-    by_layer (s.Signal sigs b.0)
-    (λ h. let q = and_true _ _ h in more (keyword k.Signal) (both (commas tokens_of_sig sigs (all_passed (λ x. Spelt (tokens_of_sig x)) fits_sig sig sigs (and_true _ _ q.0).1)) (b.1 q.1)))
+right_statement (s.Signal signals b) =
+    by_layer (s.Signal signals b.0)
+    (λ h. let q = and_true _ _ h in more (keyword k.Signal) (both (commas tokens_of_signal signals (all_passed (λ x. Spelt (tokens_of_signal x)) fits_signal signal signals (and_true _ _ q.0).1)) (b.1 q.1)))
 right_statement (s.Trap n b) = by_layer (s.Trap n b.0) (λ h. let q = and_true _ _ h in more (keyword k.Trap) (more (name n q.0) (b.1 q.1)))
 right_statement (s.Break n) = by_layer (s.Break n) (λ h. more (keyword k.Break) (more (name n.name h) (single (mark p.Semicolon))))
 right_statement (s.Run n bindings) = by_layer (s.Run n bindings) (λ h. let q = and_true _ _ h in run n bindings q.0 q.1)
@@ -116,7 +116,7 @@ right_statement (s.Async a) = by_layer (s.Async a) (async a)
 
 -- ---- blocks
 
-statements : (xs : List Node) → list_all (λ b. b) (map fits_node (map (λ n. n.0) xs)) ≡ true → Spelt (joined (map tokens_of_node (map (λ n. n.0) xs)))
+statements : (xs : List Node) → list_all (λ b. b) (map fits_node (map (λ n. n.0) xs)) ≡ true → Spelt (one_after_another (map tokens_of_node (map (λ n. n.0) xs)))
 statements [] h = none
 statements (x ∷ xs) h = let q = and_true _ _ h in both (x.1 q.0) (statements xs q.1)
 
@@ -125,14 +125,14 @@ unfolding fits_node
 right_block y h =
     let x : BlockLayer = record { pos = y.pos; statements = map (λ n. n.0) y.statements } in
     let passed = sym (fold-roll-BlockNode Name Bool Bool Bool tests.statement_step tests.block_step (λ n. n.what) x) ∙ h in
-    subst Spelt (sym (fold-roll-BlockNode Name Tokens Tokens Tokens tokens.statement_step tokens.block_step (λ n. n.what) x))
+    subst Spelt (sym (fold-roll-BlockNode Name Lexemes Lexemes Lexemes tokens.statement_step tokens.block_step (λ n. n.what) x))
     (more (mark p.LeftBrace) (closed (statements y.statements passed) p.RightBrace))
 
 right_node : (y : s.StatementNode-F Name Part Block Node) → IsRightNode (roll-StatementNode Name (map-StatementNode Name Part Block Node (Statement Name) (BlockNode Name) (StatementNode Name) (λ n. n.0) (λ n. n.0) (λ n. n.0) y))
 unfolding fits_node fits_statement
 right_node y h =
     let x : NodeLayer = record { pos = y.pos; what = y.what.0 } in
-    subst Spelt (sym (fold-roll-StatementNode Name Tokens Tokens Tokens tokens.statement_step tokens.block_step (λ n. n.what) x))
+    subst Spelt (sym (fold-roll-StatementNode Name Lexemes Lexemes Lexemes tokens.statement_step tokens.block_step (λ n. n.what) x))
     (y.what.1 (sym (fold-roll-StatementNode Name Bool Bool Bool tests.statement_step tests.block_step (λ n. n.what) x) ∙ h))
 
 pub block : (b : BlockNode Name) → IsRightBlock b

@@ -3,7 +3,7 @@ use Rattle.module_token.specs.declared.keyword.Keyword.TheVariants as w
 use Rattle.grammar.specs.Parser.{many}
 use Rattle.grammar.proofs.Lists.{Rest, list_done, list_more, list_fails}
 use Rattle.grammar.proofs.Steps.{reads_exit}
-use Rattle.expression_reader.specs.Refusals.{seen}
+use Rattle.expression_reader.specs.Refusals.{as_refusal}
 use Rattle.expression_reader.specs.Terminals.{is_keyword, is_in_curly}
 use Rattle.module_reader.specs.Reference as rule
 use Rattle.module_reader.proofs.Closings.{block_open}
@@ -13,8 +13,8 @@ use Rattle.module_reader.proofs.statements.+statement.Goals as goal
 pub read_statements-returns-in_err-statement : goal.read_statements-returns-in_err-statement
 read_statements-returns-in_err-statement t c =
     let whole = many is_in_curly (rule.statement (rule.block c.args.room) c.args.room) c.args.reader.now in
-    reads_exit seen whole _ _ c.in_err-statement.field-0.0 c.from_residual.ensures.1
-    (list_fails is_in_curly (rule.statement (rule.block c.args.room) c.args.room) seen whole c.each.list c.each.reader c.in_err-statement.field-0.0 (sym c.sees_in_curly.ensures ∙ c.each-test.true) c.in_err-statement.ensures c.each.invariant)
+    reads_exit as_refusal whole _ _ c.in_err-statement.field-0.0 c.from_residual.ensures.1
+    (list_fails is_in_curly (rule.statement (rule.block c.args.room) c.args.room) as_refusal whole c.each.list c.each.reader c.in_err-statement.field-0.0 (sym c.sees_in_curly.ensures ∙ c.each-test.true) c.in_err-statement.ensures c.each.invariant)
 
 pub read_statements-each-smaller : goal.read_statements-each-smaller
 read_statements-each-smaller t c = statement_takes c.args.room c.each.reader (c.in_ok-statement.statement, c.read_statement.new.reader) c.in_ok-statement.ensures
@@ -29,26 +29,26 @@ read_statements-each-preserved t c =
 pub read_statements-returns : goal.read_statements-returns
 read_statements-returns t c = list_done is_in_curly (rule.statement (rule.block c.args.room) c.args.room) (many is_in_curly (rule.statement (rule.block c.args.room) c.args.room) c.args.reader.now) c.each.list c.each.reader (sym c.sees_in_curly.ensures ∙ c.each-test.false) c.each.invariant
 
-pub read_fork_branches-returns-in_err-branch : goal.read_fork_branches-returns-in_err-branch
-read_fork_branches-returns-in_err-branch t c =
-    let whole = rule.branches_of (rule.block c.args.room) c.args.reader.now in
-    reads_exit seen whole _ _ c.in_err-branch.field-0.0 c.from_residual-in_err-branch.ensures.1
-    (list_fails (is_keyword w.Par) (rule.behind_par (rule.block c.args.room)) seen whole c.each.list c.each.reader c.in_err-branch.field-0.0 (sym c.sees_keyword.ensures ∙ c.each-test.true) c.in_err-branch.ensures c.each.invariant)
+pub read_par_blocks-returns-in_err-branch : goal.read_par_blocks-returns-in_err-branch
+read_par_blocks-returns-in_err-branch t c =
+    let whole = rule.par_blocks (rule.block c.args.room) c.args.reader.now in
+    reads_exit as_refusal whole _ _ c.in_err-branch.field-0.0 c.from_residual-in_err-branch.ensures.1
+    (list_fails (is_keyword w.Par) (rule.behind_par (rule.block c.args.room)) as_refusal whole c.each.list c.each.reader c.in_err-branch.field-0.0 (sym c.sees_keyword.ensures ∙ c.each-test.true) c.in_err-branch.ensures c.each.invariant)
 
-pub read_fork_branches-each-smaller : goal.read_fork_branches-each-smaller
-read_fork_branches-each-smaller t c = par_takes c.args.room c.each.reader (c.in_ok-branch.branch, c.read_behind_par.new.reader) c.in_ok-branch.ensures
+pub read_par_blocks-each-smaller : goal.read_par_blocks-each-smaller
+read_par_blocks-each-smaller t c = par_takes c.args.room c.each.reader (c.in_ok-branch.branch, c.read_behind_par.new.reader) c.in_ok-branch.ensures
 
-pub read_fork_branches-each-preserved : goal.read_fork_branches-each-preserved
-read_fork_branches-each-preserved t c =
+pub read_par_blocks-each-preserved : goal.read_par_blocks-each-preserved
+read_par_blocks-each-preserved t c =
     let lt = par_takes c.args.room c.each.reader (c.in_ok-branch.branch, c.read_behind_par.new.reader) c.in_ok-branch.ensures in
-    let whole = rule.branches_of (rule.block c.args.room) c.args.reader.now in
+    let whole = rule.par_blocks (rule.block c.args.room) c.args.reader.now in
     let more = list_more (is_keyword w.Par) (rule.behind_par (rule.block c.args.room)) whole c.each.list c.each.reader c.in_ok-branch.branch c.read_behind_par.new.reader (sym c.sees_keyword.ensures ∙ c.each-test.true) c.in_ok-branch.ensures lt c.each.invariant in
     subst (λ xs. Rest (is_keyword w.Par) (rule.behind_par (rule.block c.args.room)) whole xs c.read_behind_par.new.reader) (sym c.in_ok-push-2.ensures.ok) more
 
-pub read_fork_branches-returns : goal.read_fork_branches-returns
-read_fork_branches-returns t c = list_done (is_keyword w.Par) (rule.behind_par (rule.block c.args.room)) (rule.branches_of (rule.block c.args.room) c.args.reader.now) c.each.list c.each.reader (sym c.sees_keyword.ensures ∙ c.each-test.false) c.each.invariant
+pub read_par_blocks-returns : goal.read_par_blocks-returns
+read_par_blocks-returns t c = list_done (is_keyword w.Par) (rule.behind_par (rule.block c.args.room)) (rule.par_blocks (rule.block c.args.room) c.args.reader.now) c.each.list c.each.reader (sym c.sees_keyword.ensures ∙ c.each-test.false) c.each.invariant
 
 pub read_block-returns-in_err-punct : goal.read_block-returns-in_err-punct
 read_block-returns-in_err-punct t c =
-    reads_exit seen (rule.block c.args.room c.args.reader.now) _ _ c.in_err-punct.field-0.0 c.from_residual-in_err-punct.ensures.1
+    reads_exit as_refusal (rule.block c.args.room c.args.reader.now) _ _ c.in_err-punct.field-0.0 c.from_residual-in_err-punct.ensures.1
     (block_open c.args.room c.args.reader.now c.punct.new.self c.read_statements.new.reader c.in_ok-pos.pos c.in_ok-statements.statements c.in_err-punct.field-0.0 c.if-room-eq0.false c.in_ok-pos.ensures c.in_ok-statements.ensures c.in_err-punct.ensures)

@@ -15,11 +15,11 @@ decreases-read_behind_else l = 7 * l.room + 1
 abbrev pub decreases-read_behind_par : goal.decreases-read_behind_par
 decreases-read_behind_par l = 7 * l.room + 1
 
-abbrev pub decreases-read_fork_branches : goal.decreases-read_fork_branches
-decreases-read_fork_branches l = 7 * l.room + 2
+abbrev pub decreases-read_par_blocks : goal.decreases-read_par_blocks
+decreases-read_par_blocks l = 7 * l.room + 2
 
-abbrev pub decreases-read_choice : goal.decreases-read_choice
-decreases-read_choice l = 7 * l.room + 2
+abbrev pub decreases-read_if_else : goal.decreases-read_if_else
+decreases-read_if_else l = 7 * l.room + 2
 
 abbrev pub decreases-read_loop : goal.decreases-read_loop
 decreases-read_loop l = 7 * l.room + 2
@@ -66,8 +66,8 @@ invariant-read_statements-each l = Rest is_in_curly (rule.statement (rule.block 
 abbrev pub decreases-read_statements-each : goal.decreases-read_statements-each
 decreases-read_statements-each l = length l.reader.rest
 
-abbrev pub invariant-read_fork_branches-each : goal.invariant-read_fork_branches-each
-invariant-read_fork_branches-each l = Rest (is_keyword w.Par) (rule.behind_par (rule.block l.room)) (rule.branches_of (rule.block l.room) l.fn.reader) l.list l.reader
+abbrev pub invariant-read_par_blocks-each : goal.invariant-read_par_blocks-each
+invariant-read_par_blocks-each l = Rest (is_keyword w.Par) (rule.behind_par (rule.block l.room)) (rule.par_blocks (rule.block l.room) l.fn.reader) l.list l.reader
 
-abbrev pub decreases-read_fork_branches-each : goal.decreases-read_fork_branches-each
-decreases-read_fork_branches-each l = length l.reader.rest
+abbrev pub decreases-read_par_blocks-each : goal.decreases-read_par_blocks-each
+decreases-read_par_blocks-each l = length l.reader.rest

@@ -18,12 +18,12 @@ use std::marker::Model;
 
 /// The tokens of a text that are still to be read. Contracts see them as the grammar does.
 #[derive(Drop)]
-pub(crate) struct Words<'a> {
+pub(crate) struct TokensLeft<'a> {
     text: &'a str,
     rest: &'a [Token],
 }
 
-impl<'a> Model for Words<'a> {
+impl<'a> Model for TokensLeft<'a> {
     ghost use Rattle.std.specs.Prelude.{List};
     ghost use Rattle.grammar.specs.Tokens.{Tok};
     ghost use Rattle.expression_reader.specs.declared.terminal.Terminal.{Terminal as ATerminal};
@@ -37,12 +37,12 @@ impl<'a> Model for Words<'a> {
     ghost invariant = { AllReadable };
 }
 
-impl<'a> Words<'a> {
-    pub(crate) fn new(text: &'a str, tokens: &'a [Token]) -> Words<'a>
+impl<'a> TokensLeft<'a> {
+    pub(crate) fn new(text: &'a str, tokens: &'a [Token]) -> TokensLeft<'a>
         requires { All (IsReadable text.now) tokens.now }
         ensures { result ≡ toks text.now tokens.now }
     {
-        Words { text, rest: tokens }
+        TokensLeft { text, rest: tokens }
     }
 
     /// The name that the next token is.
@@ -75,7 +75,7 @@ impl<'a> Words<'a> {
     }
 }
 
-impl<'a> Tokens for Words<'a> {
+impl<'a> Tokens for TokensLeft<'a> {
     type Kind = Terminal;
 
     ghost left = { λ s. s };

@@ -2,7 +2,7 @@ use Rattle.std.proofs.Common.{◌≡◌, true, sym, subst}
 use Rattle.grammar.specs.Tokens.{kind_of, passes}
 use Rattle.expression_reader.specs.Rules.{is_quoted}
 use Rattle.expression_reader.proofs.QuotedWords.{first_quoted}
-use Rattle.expression_reader.proofs.words.Words.quoted.Goals as goal
+use Rattle.expression_reader.proofs.tokens_left.TokensLeft.quoted.Goals as goal
 
 pub unreachable-requires-in_default : goal.unreachable-requires-in_default
 unreachable-requires-in_default c =
