@@ -1,8 +1,8 @@
 -- Each rule of expressions is read as its language.
 use Rattle.std.proofs.Common.{◌≡◌, ℕ, zero, suc, ◌<◌, pos, Bool, true, false, Option, Some, None, refl, arith}
 use Rattle.std.specs.Prelude.{◌||◌}
-use Rattle.module_token.specs.declared.keyword.Keyword.{Keyword}
-use Rattle.module_token.specs.declared.keyword.Keyword.TheVariants as w
+use Rattle.hh_base.specs.declared.keyword.Keyword.{Keyword}
+use Rattle.hh_base.specs.declared.keyword.Keyword.TheVariants as w
 use Rattle.module_token.specs.declared.punct.Punct.{Punct}
 use Rattle.module_token.specs.declared.punct.Punct.TheVariants as k
 use Rattle.host_expr.specs.declared.expr.Expr.{Expr}

@@ -1,6 +1,6 @@
 -- Each rule of one token is read as its language.
 use Rattle.std.proofs.Common.{◌≡◌, ℕ, Bool, true, false, refl}
-use Rattle.module_token.specs.declared.keyword.Keyword.{Keyword}
+use Rattle.hh_base.specs.declared.keyword.Keyword.{Keyword}
 use Rattle.module_token.specs.declared.punct.Punct.{Punct}
 use Rattle.grammar.specs.Tokens.{never, is_plain, in_range}
 use Rattle.grammar.specs.Fault.{Fault}

@@ -1,7 +1,7 @@
 -- The reader of each rule of the grammar: it chooses by the next token, within the limits. This project's own.
 use Rattle.std.specs.Prelude.{◌≡◌, ◌<◌, length, Ok, ℕ, zero, suc, ◌||◌, pos, Bool, true, false, List, [], ◌∷◌, Option, Some, None}
-use Rattle.module_token.specs.declared.keyword.Keyword.{Keyword}
-use Rattle.module_token.specs.declared.keyword.Keyword.TheVariants as w
+use Rattle.hh_base.specs.declared.keyword.Keyword.{Keyword}
+use Rattle.hh_base.specs.declared.keyword.Keyword.TheVariants as w
 use Rattle.module_token.specs.declared.punct.Punct.{Punct}
 use Rattle.module_token.specs.declared.punct.Punct.TheVariants as p
 use Rattle.host_expr.specs.declared.expr.Expr.{Expr}

@@ -1,8 +1,8 @@
 -- The grammar of tokens, lists and expressions: each rule stands over what it says. The number `room` says how many brackets may still be opened. This project's
 -- own, after HipHop.js.
 use Rattle.std.specs.Prelude.{ℕ, zero, suc, ◌^◌, ◌-◌, pos, Bool, true, false, List, [], ◌∷◌, Option, Some, None}
-use Rattle.module_token.specs.declared.keyword.Keyword.{Keyword}
-use Rattle.module_token.specs.declared.keyword.Keyword.TheVariants as word
+use Rattle.hh_base.specs.declared.keyword.Keyword.{Keyword}
+use Rattle.hh_base.specs.declared.keyword.Keyword.TheVariants as word
 use Rattle.module_token.specs.declared.punct.Punct.{Punct}
 use Rattle.module_token.specs.declared.punct.Punct.TheVariants as mark
 use Rattle.host_expr.specs.declared.expr.Expr.{Expr}

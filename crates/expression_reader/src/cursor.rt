@@ -18,7 +18,7 @@ use hh_base::name::Name;
 use hh_base::text::Text;
 use hh_base::value::Pos;
 use module_tree::source::NameAt;
-use module_token::keyword::Keyword;
+use hh_base::keyword::Keyword;
 use module_token::punct::Punct;
 use module_token::token::Token;
 use sqlite_items::Items;

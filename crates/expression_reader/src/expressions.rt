@@ -13,7 +13,7 @@ use hh_base::name::Name;
 use hh_base::value::Pos;
 use module_tree::source::ExprAt;
 use host_expr::expr::{Expr, ExprNode, Op, Rel};
-use module_token::keyword::Keyword;
+use hh_base::keyword::Keyword;
 use module_token::punct::Punct;
 use sqlite_items::{Boxed, Items};
 

@@ -4,7 +4,7 @@ ghost use Rattle.expression_reader.specs.Terminals as terminals;
 ghost use Rattle.grammar.specs.Tokens.{is};
 
 use grammar::kinds::Kinds;
-use module_token::keyword::Keyword;
+use hh_base::keyword::Keyword;
 use module_token::punct::Punct;
 use module_token::token::TokenKind;
 

@@ -5,7 +5,7 @@ use crate::fault::StepError;
 use crate::terminal::Terminal;
 use hh_base::value::Pos;
 use host_expr::expr::{ExprNode, Op};
-use module_token::keyword::Keyword;
+use hh_base::keyword::Keyword;
 use module_token::punct::Punct;
 use module_token::token::Token;
 use module_token::tokens::tokens;

@@ -1,3 +1,4 @@
+pub mod Keywords
 pub mod Integers
 pub mod Queues
 pub mod Quotes

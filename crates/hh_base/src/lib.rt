@@ -3,6 +3,7 @@
 
 pub mod command_line;
 pub mod item;
+pub mod keyword;
 pub mod literal;
 pub mod memory;
 pub mod name;

@@ -1,7 +1,7 @@
 -- Each rule of delays is read as its language.
 use Rattle.std.proofs.Common.{ℕ, Bool, false, refl, arith}
 use Rattle.std.specs.Prelude.{◌||◌}
-use Rattle.module_token.specs.declared.keyword.Keyword.TheVariants as w
+use Rattle.hh_base.specs.declared.keyword.Keyword.TheVariants as w
 use Rattle.module_token.specs.declared.punct.Punct.TheVariants as k
 use Rattle.module_tree.specs.declared.source.Delay.TheVariants as delay
 use Rattle.module_tree.specs.declared.source.Later.TheVariants as plain

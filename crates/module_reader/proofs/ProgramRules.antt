@@ -1,6 +1,6 @@
 -- Each rule of bodies, hosts and modules is read as its language, and so are texts of them. The brackets of a declaration take one of those that may be opened.
 use Rattle.std.proofs.Common.{ℕ, suc, true, false, refl}
-use Rattle.module_token.specs.declared.keyword.Keyword.TheVariants as w
+use Rattle.hh_base.specs.declared.keyword.Keyword.TheVariants as w
 use Rattle.module_token.specs.declared.punct.Punct.TheVariants as k
 use Rattle.module_tree.specs.declared.source.Part.TheVariants as top
 use Rattle.grammar.specs.Tokens.{never}

@@ -6,8 +6,8 @@ use Rattle.hh_base.specs.declared.value.Value.{Value}
 use Rattle.hh_base.specs.declared.value.Value.TheVariants as value
 use Rattle.hh_base.specs.declared.value.CombineWord.{CombineWord}
 use Rattle.hh_base.specs.declared.value.CombineWord.TheVariants as combine
-use Rattle.module_token.specs.declared.keyword.Keyword.{Keyword}
-use Rattle.module_token.specs.declared.keyword.Keyword.TheVariants as w
+use Rattle.hh_base.specs.declared.keyword.Keyword.{Keyword}
+use Rattle.hh_base.specs.declared.keyword.Keyword.TheVariants as w
 use Rattle.module_token.specs.declared.punct.Punct.TheVariants as p
 use Rattle.hh_base.specs.declared.value.Dir.{Dir}
 use Rattle.hh_base.specs.declared.value.Dir.TheVariants as dir

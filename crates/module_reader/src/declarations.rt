@@ -10,7 +10,7 @@ use expression_reader::terminal::Terminal;
 use hh_base::value::{CombineWord, Kind, Pos, Value};
 use hh_base::value::Dir;
 use module_tree::source::{InterfaceNode, ParameterNode, SignalNode};
-use module_token::keyword::Keyword;
+use hh_base::keyword::Keyword;
 use module_token::punct::Punct;
 
 /// The largest integer.

@@ -11,7 +11,7 @@ use expression_reader::fault::StepError;
 use hh_base::name::Name;
 use hh_base::text::Text;
 use module_tree::source::{Binding, Delay, ExprAt, NameAt, Later};
-use module_token::keyword::Keyword;
+use hh_base::keyword::Keyword;
 use module_token::punct::Punct;
 use sqlite_items::Items;
 

@@ -15,7 +15,7 @@ use expression_reader::fault::StepError;
 use hh_base::name::Name;
 use hh_base::value::Pos;
 use module_tree::source::{BodyNode, ExprAt, HostNode, ModuleNode, Part};
-use module_token::keyword::Keyword;
+use hh_base::keyword::Keyword;
 use module_token::punct::Punct;
 use sqlite_items::Items;
 

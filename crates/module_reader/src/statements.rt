@@ -19,7 +19,7 @@ use expression_reader::terminal::Terminal;
 use hh_base::name::Name;
 use hh_base::value::Pos;
 use module_tree::source::{AsyncNode, BlockNode, Statement, StatementNode};
-use module_token::keyword::Keyword;
+use hh_base::keyword::Keyword;
 use module_token::punct::Punct;
 use sqlite_items::Items;
 

@@ -12,7 +12,7 @@ use Rattle.std.proofs.lemmas.List.Sums.{prefix_len-le-length}
 use Rattle.std.proofs.lemmas.Str.Parse.{IsNumeralModel, numerals_by_value, tells_all_ascii_digits, parse_digits}
 use Rattle.module_token.specs.Cut.{IsCut, CutsAt}
 use Rattle.module_token.specs.Front.{number_cut}
-use Rattle.module_token.specs.declared.fault.ReadKind.TheVariants as fault
+use Rattle.module_token.specs.declared.fault.TokenFaultKind.TheVariants as fault
 use Rattle.module_token.specs.declared.front.Front.TheVariants as front
 use Rattle.module_token.specs.declared.token.TokenKind.TheVariants as token
 

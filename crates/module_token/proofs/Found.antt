@@ -17,7 +17,7 @@ use Rattle.hh_base.specs.Literal.{escaped, escape_of, next_byte, quoted}
 use Rattle.hh_base.specs.Name.{starts_word, is_word}
 use Rattle.hh_base.specs.Text.{text_byte, has_text_bytes, IsText}
 use Rattle.hh_base.proofs.Quotes.{found-next}
-use Rattle.module_token.specs.declared.fault.ReadKind.TheVariants as fault
+use Rattle.module_token.specs.declared.fault.TokenFaultKind.TheVariants as fault
 use Rattle.module_token.specs.declared.front.Front.{Front}
 use Rattle.module_token.specs.declared.front.Front.TheVariants as front
 use Rattle.module_token.specs.declared.punct.Punct.{Punct}
@@ -26,13 +26,14 @@ use Rattle.module_token.specs.declared.token.TokenKind.TheVariants as token
 use Rattle.module_token.specs.Fault.{IsFault, IsOpen, BeginsNothing}
 use Rattle.module_token.specs.Front.{front_of, front_by, word_front, word_cut, word_found, word_len, number_front, quoted_front, quoted_run, run_for, run_on, quote_end, sign_front, long_found, short_found, short_mark, long_mark, comment_found, close_of}
 use Rattle.module_token.specs.Gap.{IsGap, is_blank, begins_comment}
-use Rattle.module_token.specs.Spelling.{keyword_of, punct_text}
+use Rattle.hh_base.specs.Keyword.{keyword_of}
+use Rattle.module_token.specs.Spelling.{punct_text}
 use Rattle.module_token.specs.Token.{IsToken, IsLongestWord, IsLongestNumber, goes_on, begins_digit}
 use Rattle.module_token.proofs.Comments.{line, line_all, ClosedBy, close_found}
 use Rattle.module_token.proofs.Cuts.{starts_continues}
 use Rattle.module_token.proofs.Digits.{run, run_all}
 use Rattle.module_token.proofs.Heads.{sign_pair}
-use Rattle.module_token.proofs.Keywords.{spelled_keyword, none_keyword}
+use Rattle.hh_base.proofs.Keywords.{spelled_keyword, none_keyword}
 use Rattle.module_token.proofs.Marks.{Shape, one, two, shape, long_spelled, short_spelled}
 use Rattle.module_token.proofs.Quotes.{Read}
 use Rattle.module_token.proofs.Values.{after_ascii, utf8_behind}

@@ -5,7 +5,6 @@ pub mod Digits
 pub mod Found
 pub mod Fronts
 pub mod Heads
-pub mod Keywords
 pub mod Lines
 pub mod Marks
 pub mod Parted

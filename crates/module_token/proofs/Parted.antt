@@ -1,10 +1,12 @@
 -- A text that has been read up to a place.
-use Rattle.std.proofs.Common.{◌≡◌, ℕ, ◌+◌, ◌-◌, ◌≤◌, List, [], ◌∷◌, ◌++◌, drop, take, Option, Some, None, refl, sym, ap, subst, ◌∙◌, arith, append_assoc, append-nil}
+use Rattle.std.proofs.Common.{◌≡◌, ℕ, ◌+◌, ◌-◌, ◌≤◌, List, [], ◌∷◌, ◌++◌, drop, take, Option, Some, None, Result, Err, refl, sym, ap, subst, ◌∙◌, arith, append_assoc, append-nil}
 use Rattle.std.specs.Prelude.{slice_range}
 use Rattle.std.specs.Str.{IsUtf8}
 use Rattle.std.proofs.lemmas.List.{drop-drop, map-append}
-use Rattle.module_token.specs.declared.fault.ReadKind.{ReadKind}
+use Rattle.module_token.specs.declared.fault.TokenFaultKind.{TokenFaultKind}
 use Rattle.module_token.specs.declared.fault.TokenFault.{TokenFault}
+use Rattle.module_token.specs.declared.fault.TokensError.{TokensError}
+use Rattle.module_token.specs.declared.fault.TokensError.TheVariants as error
 use Rattle.module_token.specs.declared.front.Front.{Front}
 use Rattle.module_token.specs.declared.front.Front.TheVariants as front
 use Rattle.module_token.specs.declared.token.Token.{Token}
@@ -56,10 +58,10 @@ module _ (text : List ℕ) (at : ℕ) (tokens : List TextToken) (utf8 : IsUtf8 (
   pub all_only : front.End ≡ front_of (drop at text) → (all : List TextToken) (end : Option TokenFault) → Tokenizes 0 text all end → (all ≡ tokens) × (end ≡ None)
   all_only e all end h = let q = next all end front.End e h in (q.1 ∙ ap (λ l. tokens ++ l) q.2.0 ∙ append-nil tokens, q.2.1)
 
-  pub fault_found : (n : ℕ) (kind : ReadKind) → front.Wrong n kind ≡ front_of (drop at text) → Tokenizes 0 text tokens (Some (fault_at (at + n) kind))
+  pub fault_found : (n : ℕ) (kind : TokenFaultKind) → front.Wrong n kind ≡ front_of (drop at text) → Tokenizes 0 text tokens (Some (fault_at (at + n) kind))
   fault_found n kind e = subst (λ l. Tokenizes 0 text l (Some (fault_at (at + n) kind))) (append-nil tokens) (back [] (Some (fault_at (at + n) kind)) (front.Wrong n kind) e (refl, refl))
 
-  pub fault_only : (n : ℕ) (kind : ReadKind) → front.Wrong n kind ≡ front_of (drop at text) → (all : List TextToken) (end : Option TokenFault) → Tokenizes 0 text all end → end ≡ Some (fault_at (at + n) kind)
+  pub fault_only : (n : ℕ) (kind : TokenFaultKind) → front.Wrong n kind ≡ front_of (drop at text) → (all : List TextToken) (end : Option TokenFault) → Tokenizes 0 text all end → end ≡ Some (fault_at (at + n) kind)
   fault_only n kind e all end h = let q = next all end (front.Wrong n kind) e h in q.2.1
 
 pub rising_on : (at : ℕ) (ts : List Token) (end more : ℕ) → Rising at ts end → end ≤ more → Rising at ts more
@@ -72,6 +74,9 @@ rising_push at (x ∷ ts) end t h l = (h.0, rising_push x.«end» ts end t h.1 l
 
 pub toks_push : (text : List ℕ) (ts : List Token) (t : Token) → toks text (ts ++ t ∷ []) ≡ toks text ts ++ tok text t ∷ []
 toks_push text ts t = map-append (tok text) ts (t ∷ [])
+
+pub same_fault : {A : Type 0} {x y : TokenFault} (r : Result A TokensError) → r ≡ Err (error.Fault x) → r ≡ Err (error.Fault y) → x ≡ y
+same_fault r g h = cc
 
 pub same_some : {x y : TokenFault} → Some x ≡ Some y → x ≡ y
 same_some h = cc

@@ -12,7 +12,7 @@ use Rattle.hh_base.specs.Literal.{escaped, next_byte}
 use Rattle.hh_base.proofs.Quotes.{next-escaped, found-next, text-more, plain-more}
 use Rattle.module_token.specs.Cut.{CutsAt}
 use Rattle.module_token.specs.Front.{run_for, run_on, quote_end, quoted_front, quoted_run}
-use Rattle.module_token.specs.declared.fault.ReadKind.TheVariants as fault
+use Rattle.module_token.specs.declared.fault.TokenFaultKind.TheVariants as fault
 use Rattle.module_token.specs.declared.front.Front.TheVariants as front
 use Rattle.module_token.specs.declared.token.TokenKind.TheVariants as token
 use Rattle.module_token.proofs.Basics.{and_true}

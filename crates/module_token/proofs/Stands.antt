@@ -13,8 +13,8 @@ use Rattle.hh_base.specs.Literal.{escaped, escape_of, next_byte, quoted}
 use Rattle.hh_base.specs.Name.{starts_word, is_word}
 use Rattle.hh_base.specs.Text.{has_text_bytes, IsText}
 use lib.Utf8.{encode}
-use Rattle.module_token.specs.declared.fault.ReadKind.{ReadKind}
-use Rattle.module_token.specs.declared.fault.ReadKind.TheVariants as fault
+use Rattle.module_token.specs.declared.fault.TokenFaultKind.{TokenFaultKind}
+use Rattle.module_token.specs.declared.fault.TokenFaultKind.TheVariants as fault
 use Rattle.module_token.specs.declared.front.Front.TheVariants as front
 use Rattle.module_token.specs.declared.punct.Punct.{Punct}
 use Rattle.module_token.specs.declared.punct.Punct.TheVariants as p
@@ -23,14 +23,15 @@ use Rattle.module_token.specs.declared.token.TokenKind.TheVariants as token
 use Rattle.module_token.specs.Fault.{IsFault, IsOpen, BeginsNothing}
 use Rattle.module_token.specs.Front.{front_of, front_by, word_front, word_cut, word_found, word_len, number_cut, quoted_run, quote_end, sign_front, pair_front, long_found, short_found, short_mark, long_mark, comment_found, close_of}
 use Rattle.module_token.specs.Gap.{IsGap, has_close, begins_comment}
-use Rattle.module_token.specs.Spelling.{keyword_of, punct_text}
+use Rattle.hh_base.specs.Keyword.{keyword_of}
+use Rattle.module_token.specs.Spelling.{punct_text}
 use Rattle.module_token.specs.Token.{IsToken, IsLongestWord, IsLongestNumber, IsLongestMark, goes_on, begins_digit}
 use Rattle.module_token.proofs.Comments.{line, line_is, close_is, close_lacks}
 use Rattle.module_token.proofs.Cuts.{starts_continues}
 use Rattle.module_token.proofs.Digits.{run}
 use Rattle.module_token.proofs.Fronts.{front_sign}
 use Rattle.module_token.proofs.Heads.{blank_front, sign_front_at, digit_front, quote_front, word_by, sign_pair}
-use Rattle.module_token.proofs.Keywords.{keyword_found, keyword_none, keyword_short}
+use Rattle.hh_base.proofs.Keywords.{keyword_found, keyword_none, keyword_short}
 use Rattle.module_token.proofs.Marks.{Sign, Shape, one, two, shape, long_spelled, short_spelled}
 use Rattle.module_token.proofs.Quotes.{run_stops, value_short}
 use Rattle.module_token.proofs.Basics.{and_true, take_seam}
@@ -228,7 +229,7 @@ unfolding front_of
 nothing_front text h =
     ap (λ cs. front_by cs text) h.letters ∙ front_sign h.first h.others text h.no_blank h.no_digit h.no_quote h.no_word ∙ lacks_marks text (some_bytes text h.first h.others h.letters) h.no_mark
 
-pub fault_front : (kind : ReadKind) (text : List ℕ) (n : ℕ) → IsFault kind text n → front_of text ≡ front.Wrong n kind
+pub fault_front : (kind : TokenFaultKind) (text : List ℕ) (n : ℕ) → IsFault kind text n → front_of text ≡ front.Wrong n kind
 fault_front fault.BadChar text n (zero_on, h) = rw zero_on (nothing_front text h)
 fault_front fault.NameLong text n (zero_on, word, rest, split, w, long) = rw (zero_on, split) (word_cuts word rest w ∙ rw (long_le (length word) long) refl)
 fault_front fault.NumberLarge text n (zero_on, ds, rest, v, split, w, large) = rw (zero_on, split) (number_cuts ds rest v w ∙ number_over (length ds) v large)
@@ -236,4 +237,3 @@ fault_front fault.TextLong text n (zero_on, v, rest, split, h, long) = rw (zero_
 fault_front fault.TextOpen text n (zero_on, v, rest, split, h, ends) = rw (zero_on, split) (open_front v rest h ends)
 fault_front fault.BadEscape text n (v, m, rest, split, h, e, on) = rw (on, split) (escape_front v rest m h e)
 fault_front fault.CommentOpen text n (zero_on, body, split, h) = rw (zero_on, split) (comment_front body ∙ ap comment_found (close_lacks body h))
-fault_front _ text n h = absurd h

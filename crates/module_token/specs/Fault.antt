@@ -6,8 +6,8 @@ use Rattle.std.specs.Str.{chars}
 use Rattle.hh_base.specs.Literal.{escaped, escape_of, quoted}
 use Rattle.hh_base.specs.Name.{starts_word}
 use Rattle.hh_base.specs.Text.{has_text_bytes}
-use Rattle.module_token.specs.declared.fault.ReadKind.{ReadKind}
-use Rattle.module_token.specs.declared.fault.ReadKind.TheVariants as fault
+use Rattle.module_token.specs.declared.fault.TokenFaultKind.{TokenFaultKind}
+use Rattle.module_token.specs.declared.fault.TokenFaultKind.TheVariants as fault
 use Rattle.module_token.specs.declared.punct.Punct.{Punct}
 use Rattle.module_token.specs.Gap.{is_blank, has_close}
 use Rattle.module_token.specs.Spelling.{punct_text}
@@ -29,7 +29,7 @@ abbrev pub IsOpen : List ℕ → Type 0
 IsOpen [] = Unit {0}
 IsOpen (b ∷ bs) = (b < 32) ⊎ ((b ≡ 92) × (bs ≡ []))
 
-abbrev pub IsFault : ReadKind → List ℕ → ℕ → Type 0
+abbrev pub IsFault : TokenFaultKind → List ℕ → ℕ → Type 0
 IsFault fault.BadChar text n = (n ≡ 0) × BeginsNothing text
 IsFault fault.NameLong text n = (n ≡ 0) × (word : List ℕ) × (rest : List ℕ) × (text ≡ word ++ rest) × IsLongestWord word rest × (255 < length word)
 IsFault fault.NumberLarge text n =
@@ -40,4 +40,3 @@ IsFault fault.BadEscape text n =
     (value : List ℕ) × (mark : ℕ) × (rest : List ℕ) × (text ≡ 34 ∷ (flat_map escaped value ++ 92 ∷ mark ∷ rest)) × (has_text_bytes value ≡ true) × (escape_of mark ≡ None)
     × (n ≡ length (34 ∷ flat_map escaped value))
 IsFault fault.CommentOpen text n = (n ≡ 0) × (body : List ℕ) × (text ≡ codes "/*" ++ body) × (has_close body ≡ false)
-IsFault _ text n = ⊥

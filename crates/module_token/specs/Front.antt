@@ -7,16 +7,16 @@ use Rattle.std.specs.Str.Parse.{digits_value}
 use Rattle.unicode_ident.specs.Ident.{is_xid_continue}
 use Rattle.hh_base.specs.Name.{starts_word}
 use Rattle.hh_base.specs.Literal.{next_byte}
-use Rattle.module_token.specs.declared.fault.ReadKind.TheVariants as fault
+use Rattle.module_token.specs.declared.fault.TokenFaultKind.TheVariants as fault
 use Rattle.module_token.specs.declared.front.Front.{Front}
 use Rattle.module_token.specs.declared.front.Front.TheVariants as front
-use Rattle.module_token.specs.declared.keyword.Keyword.{Keyword}
+use Rattle.hh_base.specs.declared.keyword.Keyword.{Keyword}
 use Rattle.module_token.specs.declared.punct.Punct.{Punct}
 use Rattle.module_token.specs.declared.punct.Punct.TheVariants as p
 use Rattle.module_token.specs.declared.token.TokenKind.{TokenKind}
 use Rattle.module_token.specs.declared.token.TokenKind.TheVariants as token
 use Rattle.module_token.specs.Gap.{is_blank, starts_close}
-use Rattle.module_token.specs.Spelling.{keyword_of}
+use Rattle.hh_base.specs.Keyword.{keyword_of}
 
 -- ---- marks and comments
 

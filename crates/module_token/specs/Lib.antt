@@ -1,5 +1,6 @@
 pub mod Cut
 pub mod Fault
+pub mod FaultWord
 pub mod Front
 pub mod Gap
 pub mod Place

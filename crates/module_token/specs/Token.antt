@@ -3,7 +3,7 @@ use Rattle.std.specs.Prelude.{◌≡◌, ℕ, ◌≤◌, ◌^◌, Bool, true, fa
 use Rattle.std.specs.Char.{is_ascii_digit}
 use Rattle.std.specs.Str.{chars, is_utf8}
 use Rattle.unicode_ident.specs.Ident.{is_xid_continue}
-use Rattle.hh_base.specs.Keyword.{is_keyword}
+use Rattle.hh_base.specs.Keyword.{is_keyword, keyword_text}
 use Rattle.hh_base.specs.Literal.{IsNumber, quoted}
 use Rattle.hh_base.specs.Name.{is_word}
 use Rattle.hh_base.specs.Text.{IsText}
@@ -11,7 +11,7 @@ use Rattle.module_token.specs.declared.punct.Punct.{Punct}
 use Rattle.module_token.specs.declared.token.TokenKind.{TokenKind}
 use Rattle.module_token.specs.declared.token.TokenKind.TheVariants as token
 use Rattle.module_token.specs.Gap.{begins_comment}
-use Rattle.module_token.specs.Spelling.{keyword_text, punct_text}
+use Rattle.module_token.specs.Spelling.{punct_text}
 
 -- the characters go on a word
 abbrev pub goes_on : List ℕ → Bool

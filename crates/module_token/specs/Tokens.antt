@@ -1,6 +1,6 @@
 -- The tokens of a text, and the first place where it has neither a gap nor a token. This project's own.
 use Rattle.std.specs.Prelude.{ℕ, ◌+◌, List, [], ◌∷◌, ◌++◌, length, Option, Some, None}
-use Rattle.module_token.specs.declared.fault.ReadKind.{ReadKind}
+use Rattle.module_token.specs.declared.fault.TokenFaultKind.{TokenFaultKind}
 use Rattle.module_token.specs.declared.fault.TokenFault.{TokenFault}
 use Rattle.module_token.specs.declared.token.TokenKind.{TokenKind}
 use Rattle.module_token.specs.Fault.{IsFault}
@@ -13,13 +13,13 @@ pub record TextToken : Type 0 where
   pub what : TokenKind
   pub text : List ℕ
 
-abbrev pub fault_at : ℕ → ReadKind → TokenFault
+abbrev pub fault_at : ℕ → TokenFaultKind → TokenFault
 fault_at pos kind = record { pos = record { 0 = pos }; kind = kind }
 
 -- what is read of a text that stands behind so many bytes: its tokens up to its end, or up to a fault
 pub data Tokenizes : ℕ → List ℕ → List TextToken → Option TokenFault → Type 0 where
   ended : {at : ℕ} → Tokenizes at [] [] None
-  refused : {at : ℕ} {text : List ℕ} (n : ℕ) (kind : ReadKind) → IsFault kind text n → Tokenizes at text [] (Some (fault_at (at + n) kind))
+  refused : {at : ℕ} {text : List ℕ} (n : ℕ) (kind : TokenFaultKind) → IsFault kind text n → Tokenizes at text [] (Some (fault_at (at + n) kind))
   passed : {at : ℕ} (gap rest : List ℕ) {tokens : List TextToken} {end : Option TokenFault} → IsGap gap rest → Tokenizes (at + length gap) rest tokens end → Tokenizes at (gap ++ rest) tokens end
   taken : {at : ℕ} (text rest : List ℕ) (what : TokenKind) {tokens : List TextToken} {end : Option TokenFault} → IsToken text what rest → Tokenizes (at + length text) rest tokens end → Tokenizes at (text ++ rest) (record { pos = at; what = what; text = text } ∷ tokens) end
 

@@ -4,7 +4,7 @@ ghost use Rattle.module_token.specs.Cut.{CutsAt};
 ghost use Rattle.module_token.specs.Front.{front_of};
 ghost use Rattle.module_token.specs.Gap.{is_blank};
 
-use crate::fault::ReadKind;
+use crate::fault::TokenFaultKind;
 use crate::number::number;
 use crate::quoted::quoted;
 use crate::sign::sign;
@@ -18,7 +18,7 @@ pub enum Front {
     End,
     Gap(usize),
     Lexeme(usize, TokenKind),
-    Wrong(usize, ReadKind),
+    Wrong(usize, TokenFaultKind),
 }
 
 fn is_blank(letter: char) -> bool

@@ -4,7 +4,6 @@
 
 pub mod fault;
 mod front;
-pub mod keyword;
 mod number;
 pub mod punct;
 mod quoted;

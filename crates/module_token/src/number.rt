@@ -7,7 +7,7 @@ ghost use Rattle.std.specs.Str.Parse.{digits_value};
 ghost use Rattle.module_token.specs.Cut.{CutsAt};
 ghost use Rattle.module_token.specs.Front.{number_cut, number_front};
 
-use crate::fault::ReadKind;
+use crate::fault::TokenFaultKind;
 use crate::front::Front;
 use crate::token::TokenKind;
 
@@ -34,7 +34,7 @@ fn number_cut(len: usize, digits: &str) -> Front
 {
     match digits.parse::<u64>() {
         Ok(value) if value <= NUMBER_LIMIT => Front::Lexeme(len, TokenKind::Number(value)),
-        _ => Front::Wrong(0, ReadKind::NumberLarge),
+        _ => Front::Wrong(0, TokenFaultKind::NumberLarge),
     }
 }
 

@@ -4,7 +4,7 @@ ghost use Rattle.hh_base.specs.Literal.{after_backslash, next_byte};
 ghost use Rattle.module_token.specs.Cut.{CutsAt};
 ghost use Rattle.module_token.specs.Front.{quote_end, quoted_front};
 
-use crate::fault::ReadKind;
+use crate::fault::TokenFaultKind;
 use crate::front::Front;
 use crate::token::TokenKind;
 use hh_base::text::TEXT_LIMIT;
@@ -42,9 +42,9 @@ fn quote_end(at: usize, len: usize, rest: &[u8]) -> Front
 {
     match rest.split_first() {
         Some((b'"', _)) if len <= TEXT_LIMIT => Front::Lexeme(at + 1, TokenKind::Quoted),
-        Some((b'"', _)) => Front::Wrong(0, ReadKind::TextLong),
-        Some((b'\\', others)) if !others.is_empty() => Front::Wrong(at, ReadKind::BadEscape),
-        _ => Front::Wrong(0, ReadKind::TextOpen),
+        Some((b'"', _)) => Front::Wrong(0, TokenFaultKind::TextLong),
+        Some((b'\\', others)) if !others.is_empty() => Front::Wrong(at, TokenFaultKind::BadEscape),
+        _ => Front::Wrong(0, TokenFaultKind::TextOpen),
     }
 }
 

@@ -5,7 +5,7 @@ ghost use Rattle.std.specs.Str.{IsCharBoundary};
 ghost use Rattle.module_token.specs.Cut.{CutsAt};
 ghost use Rattle.module_token.specs.Front.{close_of, comment_found, long_mark, pair_front, short_found, short_mark, sign_front};
 
-use crate::fault::ReadKind;
+use crate::fault::TokenFaultKind;
 use crate::front::Front;
 use crate::punct::Punct;
 use crate::token::TokenKind;
@@ -87,7 +87,7 @@ fn comment(text: &str) -> Front
     let (_, body) = text.split_at(2);
     match close_of(body) {
         Some(len) => Front::Gap(len + 2),
-        None => Front::Wrong(0, ReadKind::CommentOpen),
+        None => Front::Wrong(0, TokenFaultKind::CommentOpen),
     }
 }
 
@@ -101,7 +101,7 @@ fn single(first: u8, text: &str) -> Front
 {
     match short_mark(first) {
         Some(mark) => Front::Lexeme(1, TokenKind::Punct(mark)),
-        None => Front::Wrong(0, ReadKind::BadChar),
+        None => Front::Wrong(0, TokenFaultKind::BadChar),
     }
 }
 

@@ -1,22 +1,19 @@
 //! The edges of every token and of every fault, and each call that takes memory once on its happy path.
 
-use crate::fault::{ReadKind, TokenFault};
-use crate::keyword::{Keyword, keyword_of};
+use crate::fault::{TokenFault, TokenFaultKind, TokensError};
 use crate::punct::Punct;
 use crate::token::{Token, TokenKind};
 use crate::tokens::{token_text, tokens, unquote};
+use hh_base::keyword::{Keyword, keyword_of};
 use hh_base::value::Pos;
 use std::alloc::Global;
 use std::process::Abort;
 use std::test::Fail;
 
 /// The tokens of a text of at most a million bytes.
-fn read(alloc: Global, text: &str) -> Result<Vec<Token>, TokenFault> {
+fn read(alloc: Global, text: &str) -> Result<Vec<Token>, TokensError> {
     if text.len() > 1_000_000 {
-        return Err(TokenFault {
-            pos: Pos(0),
-            kind: ReadKind::NoMemory,
-        });
+        return Err(TokensError::NoMemory);
     }
     tokens(alloc, text)
 }
@@ -50,11 +47,11 @@ fn is_one(alloc: Global, text: &str, what: TokenKind) -> Result<bool, Fail> {
 }
 
 /// Whether this fault is the first of the text.
-fn refuses(alloc: Global, text: &str, kind: ReadKind, pos: u32) -> Result<bool, Fail> {
+fn refuses(alloc: Global, text: &str, kind: TokenFaultKind, pos: u32) -> Result<bool, Fail> {
     match read(alloc, text) {
         Ok(_) => Ok(false),
-        Err(fault) if fault.kind == ReadKind::NoMemory => Err(Fail::from(fault)),
-        Err(fault) => Ok(fault.kind == kind && fault.pos == Pos(pos)),
+        Err(TokensError::NoMemory) => Err(Fail::from(TokensError::NoMemory)),
+        Err(TokensError::Fault(fault)) => Ok(fault.kind == kind && fault.pos == Pos(pos)),
     }
 }
 
@@ -127,7 +124,7 @@ fn gaps(rt: HostRuntime) -> Result<(), Fail> {
         )?
     );
     for (text, pos) in OPEN_COMMENTS {
-        assert!(rt; refuses(alloc, text, ReadKind::CommentOpen, pos)?);
+        assert!(rt; refuses(alloc, text, TokenFaultKind::CommentOpen, pos)?);
     }
     Ok(())
 }
@@ -243,9 +240,9 @@ fn words(rt: HostRuntime) -> Result<(), Fail> {
     assert!(rt; is_one(alloc, repeated(alloc, "", "a", 255, "")?.as_str(), word)?);
     assert!(rt; is_one(alloc, repeated(alloc, "", "é", 127, "a")?.as_str(), word)?);
     let ascii = repeated(alloc, " ", "a", 256, "")?;
-    assert!(rt; refuses(alloc, ascii.as_str(), ReadKind::NameLong, 1)?);
+    assert!(rt; refuses(alloc, ascii.as_str(), TokenFaultKind::NameLong, 1)?);
     let wide = repeated(alloc, "", "é", 128, "")?;
-    assert!(rt; refuses(alloc, wide.as_str(), ReadKind::NameLong, 0)?);
+    assert!(rt; refuses(alloc, wide.as_str(), TokenFaultKind::NameLong, 0)?);
     Ok(())
 }
 
@@ -292,9 +289,9 @@ fn numbers(rt: HostRuntime) -> Result<(), Fail> {
         "9223372036854775809a",
     ];
     for text in large {
-        assert!(rt; refuses(alloc, text, ReadKind::NumberLarge, 0)?);
+        assert!(rt; refuses(alloc, text, TokenFaultKind::NumberLarge, 0)?);
     }
-    assert!(rt; refuses(alloc, "1 9223372036854775809", ReadKind::NumberLarge, 2)?);
+    assert!(rt; refuses(alloc, "1 9223372036854775809", TokenFaultKind::NumberLarge, 2)?);
     Ok(())
 }
 
@@ -338,7 +335,7 @@ fn quoted_texts(rt: HostRuntime) -> Result<(), Fail> {
         "\"\\\"",
     ];
     for text in open {
-        assert!(rt; refuses(alloc, text, ReadKind::TextOpen, 0)?);
+        assert!(rt; refuses(alloc, text, TokenFaultKind::TextOpen, 0)?);
     }
     for (text, pos) in [
         ("\"a\\\n\"", 2),
@@ -347,9 +344,9 @@ fn quoted_texts(rt: HostRuntime) -> Result<(), Fail> {
         ("a \"\\\\\\0", 5),
         ("\"\\r\u{1}", 1),
     ] {
-        assert!(rt; refuses(alloc, text, ReadKind::BadEscape, pos)?);
+        assert!(rt; refuses(alloc, text, TokenFaultKind::BadEscape, pos)?);
     }
-    assert!(rt; refuses(alloc, "\"a\"b\"", ReadKind::TextOpen, 4)?);
+    assert!(rt; refuses(alloc, "\"a\"b\"", TokenFaultKind::TextOpen, 4)?);
     Ok(())
 }
 
@@ -379,12 +376,12 @@ fn long_texts(rt: HostRuntime) -> Result<(), Fail> {
         )?
     );
     let edges = [
-        ("a", 4097, "\"", ReadKind::TextLong, 1),
-        ("\\\"", 4097, "\"", ReadKind::TextLong, 1),
-        ("é", 2048, "a\"", ReadKind::TextLong, 1),
-        ("a", 4097, "\n\"", ReadKind::TextOpen, 1),
-        ("a", 4097, "", ReadKind::TextOpen, 1),
-        ("a", 4097, "\\a\"", ReadKind::BadEscape, 4099),
+        ("a", 4097, "\"", TokenFaultKind::TextLong, 1),
+        ("\\\"", 4097, "\"", TokenFaultKind::TextLong, 1),
+        ("é", 2048, "a\"", TokenFaultKind::TextLong, 1),
+        ("a", 4097, "\n\"", TokenFaultKind::TextOpen, 1),
+        ("a", 4097, "", TokenFaultKind::TextOpen, 1),
+        ("a", 4097, "\\a\"", TokenFaultKind::BadEscape, 4099),
     ];
     for (piece, count, back, kind, pos) in edges {
         let text = repeated(alloc, " \"", piece, count, back)?;
@@ -483,7 +480,7 @@ fn marks(rt: HostRuntime) -> Result<(), Fail> {
         )?
     );
     for (text, pos) in BAD_CHARACTERS {
-        assert!(rt; refuses(alloc, text, ReadKind::BadChar, pos)?);
+        assert!(rt; refuses(alloc, text, TokenFaultKind::BadChar, pos)?);
     }
     Ok(())
 }
@@ -492,19 +489,19 @@ fn marks(rt: HostRuntime) -> Result<(), Fail> {
 fn first_fault(rt: HostRuntime) -> Result<(), Fail> {
     let alloc = rt.alloc();
     let all = [
-        ("@ 9223372036854775809", ReadKind::BadChar, 0),
-        ("9223372036854775809 @", ReadKind::NumberLarge, 0),
-        ("in A, \"\\x\" /*", ReadKind::BadEscape, 7),
-        ("/* \" @", ReadKind::CommentOpen, 0),
-        ("\"/* @", ReadKind::TextOpen, 0),
-        ("// @\n\u{ad}", ReadKind::BadChar, 5),
+        ("@ 9223372036854775809", TokenFaultKind::BadChar, 0),
+        ("9223372036854775809 @", TokenFaultKind::NumberLarge, 0),
+        ("in A, \"\\x\" /*", TokenFaultKind::BadEscape, 7),
+        ("/* \" @", TokenFaultKind::CommentOpen, 0),
+        ("\"/* @", TokenFaultKind::TextOpen, 0),
+        ("// @\n\u{ad}", TokenFaultKind::BadChar, 5),
     ];
     for (text, kind, pos) in all {
         assert!(rt; refuses(alloc, text, kind, pos)?);
     }
     let fault = TokenFault {
         pos: Pos(3),
-        kind: ReadKind::TextOpen,
+        kind: TokenFaultKind::TextOpen,
     };
     assert_eq!(rt; fault.to_string(alloc)?.as_str(), "TextOpen");
     Ok(())

@@ -1,6 +1,6 @@
 //! Tokens as places in a text.
 
-use crate::keyword::Keyword;
+use hh_base::keyword::Keyword;
 use crate::punct::Punct;
 
 /// What a token is. A number has its value. What a quoted text stands for is read by `unquote`.

@@ -1,5 +1,5 @@
 //! The tokens of a text.
-ghost use Rattle.std.specs.Prelude.{◌≡◌, ◌≢◌, ◌<◌, ◌^◌, ◌⊎◌, ℕ, List, All, length, slice_range, IfOk, IfErr, MatchResult};
+ghost use Rattle.std.specs.Prelude.{◌≡◌, ◌<◌, ◌^◌, ◌⊎◌, ℕ, List, All, length, slice_range, IfOk, IsErrOf, MatchResult};
 ghost use Rattle.hh_base.specs.Literal.{quoted};
 ghost use Rattle.hh_base.specs.Text.{IsText};
 ghost use Rattle.hh_base.specs.declared.value.Value.TheVariants as value_kind;
@@ -9,7 +9,7 @@ ghost use Rattle.module_token.specs.Tokens.{FirstTokenFault, TextToken, HasToken
 ghost use Rattle.module_token.specs.declared.token.TokenKind.TheVariants as token_kind;
 ghost use Rattle.module_token.specs.declared.fault.TokenFault.{TokenFault as AFault};
 
-use crate::fault::{ReadKind, TokenFault};
+use crate::fault::{TokenFault, TokensError};
 use crate::front::{Front, read_front};
 use crate::token::Token;
 use hh_base::literal::read_literal;
@@ -52,14 +52,14 @@ pub fn unquote(alloc: Global, text: &str, token: Token) -> Result<Text, NoMemory
 /// The tokens of a text of fewer than 2^32 bytes, in order, with places in bytes. An error is the first
 /// place where the text has neither a blank or comment nor a token, and what is wrong there; or memory
 /// ran out. Takes time in proportion to the text, and copies none of it.
-pub fn tokens(alloc: Global, text: &str) -> Result<Vec<Token>, TokenFault>
+pub fn tokens(alloc: Global, text: &str) -> Result<Vec<Token>, TokensError>
     requires { length text.now < 2 ^ 32 }
     ensures found { IfOk result (λ ts. HasTokens text.now (toks text.now ts.items)) }
     ensures only { (ts : List TextToken) → HasTokens text.now ts
-        → MatchResult result (λ found. toks text.now found.items ≡ ts) (λ e. e.kind ≡ ReadKind.NoMemory) }
-    ensures fault { IfErr result (λ e. e.kind ≢ ReadKind.NoMemory → FirstTokenFault text.now e) }
-    ensures refused { (e : AFault) → FirstTokenFault text.now e
-        → MatchResult result (λ ts. ⊥) (λ f. (f ≡ e) ⊎ (f.kind ≡ ReadKind.NoMemory)) }
+        → MatchResult result (λ found. toks text.now found.items ≡ ts) (λ e. e ≡ TokensError.NoMemory) }
+    ensures fault { (f : AFault) → IsErrOf result (TokensError.Fault f) → FirstTokenFault text.now f }
+    ensures refused { (f : AFault) → FirstTokenFault text.now f
+        → MatchResult result (λ ts. ⊥) (λ e. (e ≡ TokensError.Fault f) ⊎ (e ≡ TokensError.NoMemory)) }
     ensures in_text { IfOk result (λ ts. All (InText text.now) ts.items) }
     ensures rising { IfOk result (λ ts. Rising 0 ts.items (length text.now)) }
 {
@@ -78,7 +78,7 @@ pub fn tokens(alloc: Global, text: &str) -> Result<Vec<Token>, TokenFault>
             }
             Front::Wrong(len, kind) => {
                 let pos = Pos((at + len) as u32);
-                return Err(TokenFault { pos, kind });
+                return Err(TokensError::Fault(TokenFault { pos, kind }));
             }
         }
     }

@@ -4,12 +4,12 @@ ghost use Rattle.std.specs.Str.{chars, IsCharBoundary};
 ghost use Rattle.hh_base.specs.Name.{starts_word};
 ghost use Rattle.module_token.specs.Cut.{CutsAt};
 ghost use Rattle.module_token.specs.Front.{word_found, word_front, word_len};
-ghost use Rattle.module_token.specs.Spelling.{keyword_of};
+ghost use Rattle.hh_base.specs.Keyword.{keyword_of};
 
-use crate::fault::ReadKind;
+use crate::fault::TokenFaultKind;
 use crate::front::Front;
-use crate::keyword::keyword_of;
 use crate::token::TokenKind;
+use hh_base::keyword::keyword_of;
 use hh_base::name::NAME_LIMIT;
 
 /// How many bytes stand first of characters that go on a word.
@@ -27,7 +27,6 @@ fn word_len(text: &str) -> usize
     len
 }
 
-#[tactic(auto, using(crate::proofs::Keywords::keyword_found, crate::proofs::Keywords::keyword_none))]
 fn word_found(word: &str) -> TokenKind
     ensures { result ≡ word_found (keyword_of word.now) }
 {
@@ -46,7 +45,7 @@ pub fn word(text: &str) -> Front
 {
     let len = word_len(text);
     if len > NAME_LIMIT {
-        return Front::Wrong(0, ReadKind::NameLong);
+        return Front::Wrong(0, TokenFaultKind::NameLong);
     }
     let (word, _) = text.split_at(len);
     Front::Lexeme(len, word_found(word))

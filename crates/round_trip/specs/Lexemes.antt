@@ -6,7 +6,8 @@ use Rattle.hh_base.specs.Text.{IsText}
 use Rattle.module_tree.specs.SourceWords.{is_written_name}
 use Rattle.module_token.specs.declared.token.TokenKind.{TokenKind}
 use Rattle.module_token.specs.declared.token.TokenKind.TheVariants as token
-use Rattle.module_token.specs.Spelling.{keyword_text, punct_text}
+use Rattle.hh_base.specs.Keyword.{keyword_text}
+use Rattle.module_token.specs.Spelling.{punct_text}
 use Rattle.module_token.specs.Tokens.{TextToken}
 
 -- the bytes spell this token wherever a blank follows them

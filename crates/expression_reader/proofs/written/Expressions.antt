@@ -16,8 +16,8 @@ use Rattle.std.specs.Str.{is_utf8}
 use Rattle.module_tree.specs.SourceWords.{is_written_name, is_written_text}
 use Rattle.grammar.specs.Language as l
 use Rattle.grammar.proofs.KindSets.{both as parts}
-use Rattle.module_token.specs.declared.keyword.Keyword.{Keyword}
-use Rattle.module_token.specs.declared.keyword.Keyword.TheVariants as w
+use Rattle.hh_base.specs.declared.keyword.Keyword.{Keyword}
+use Rattle.hh_base.specs.declared.keyword.Keyword.TheVariants as w
 use Rattle.module_token.specs.declared.punct.Punct.{Punct}
 use Rattle.module_token.specs.declared.punct.Punct.TheVariants as p
 use Rattle.expression_reader.specs.declared.terminal.Terminal.{Terminal}

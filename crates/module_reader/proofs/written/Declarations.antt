@@ -10,8 +10,8 @@ use Rattle.module_tree.specs.SourceWords.{is_written_name, is_written_integer, i
 use Rattle.hh_base.specs.Value.{is_valued, is_interface}
 use Rattle.module_tree.specs.SourceForms.{is_filled, if_there, fits_name, fits_signal, fits_interface, fits_parameter, fits_binding}
 use Rattle.grammar.specs.Language as l
-use Rattle.module_token.specs.declared.keyword.Keyword.{Keyword}
-use Rattle.module_token.specs.declared.keyword.Keyword.TheVariants as w
+use Rattle.hh_base.specs.declared.keyword.Keyword.{Keyword}
+use Rattle.hh_base.specs.declared.keyword.Keyword.TheVariants as w
 use Rattle.expression_reader.specs.Trees.{TextAt}
 use Rattle.expression_reader.specs.Rules as eg
 use Rattle.module_reader.specs.Rules as g

@@ -17,8 +17,8 @@ use Rattle.module_tree.specs.SourceForms as tests
 use Rattle.module_tree.specs.SourceForms.{is_filled, if_there, fits_name, fits_expression, fits_signal, fits_binding, fits_block}
 use Rattle.module_tree.specs.SourceNesting as nests
 use Rattle.module_tree.specs.SourceNesting.{in_parentheses, largest, nesting_of_value, nesting_of_block}
-use Rattle.module_token.specs.declared.keyword.Keyword.{Keyword}
-use Rattle.module_token.specs.declared.keyword.Keyword.TheVariants as w
+use Rattle.hh_base.specs.declared.keyword.Keyword.{Keyword}
+use Rattle.hh_base.specs.declared.keyword.Keyword.TheVariants as w
 use Rattle.expression_reader.specs.Trees.{Name, pos_at}
 use Rattle.module_reader.specs.Trees.{statement_at, block_at}
 use Rattle.expression_reader.specs.Rules as eg

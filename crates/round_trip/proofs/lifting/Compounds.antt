@@ -14,7 +14,7 @@ use Rattle.module_tree.specs.SourceWords.{is_written_name}
 use Rattle.module_tree.specs.SourceForms.{fits_expression, fits_signal, fits_later, fits_delay}
 use Rattle.module_tree.specs.SourceNesting as nests
 use Rattle.module_tree.specs.SourceNesting.{nesting_of_later, nesting_of_delay}
-use Rattle.module_token.specs.declared.keyword.Keyword.TheVariants as w
+use Rattle.hh_base.specs.declared.keyword.Keyword.TheVariants as w
 use Rattle.module_token.specs.declared.punct.Punct.TheVariants as punct
 use Rattle.expression_reader.specs.Trees.{Name, pos_at}
 use Rattle.module_reader.specs.Trees.{statement_at}

@@ -23,10 +23,10 @@ use Rattle.module_tree.specs.SourceForms.{fits_name, fits_signal, fits_interface
 use Rattle.grammar.specs.Language as l
 use Rattle.grammar.specs.Language.{◌or◌}
 use Rattle.grammar.proofs.KindSets.{both as parts}
-use Rattle.module_token.specs.declared.keyword.Keyword.{Keyword}
-use Rattle.module_token.specs.declared.keyword.Keyword.TheVariants as w
+use Rattle.hh_base.specs.declared.keyword.Keyword.{Keyword}
+use Rattle.hh_base.specs.declared.keyword.Keyword.TheVariants as w
 use Rattle.module_token.specs.declared.punct.Punct.TheVariants as punct
-use Rattle.module_token.specs.Spelling.{keyword_text}
+use Rattle.hh_base.specs.Keyword.{keyword_text}
 use Rattle.expression_reader.specs.Trees.{Name, pos_at}
 use Rattle.module_printer.specs.ExpressionTokens.{Lexemes, tokens_of_value}
 use Rattle.module_printer.specs.SourceTokens.{if_there, comma_separated, token_of_kind, tokens_of_dir, tokens_of_type, tokens_of_first, tokens_of_combine, tokens_of_signal, tokens_of_interface, tokens_of_parameter, tokens_of_binding, tokens_of_handler}

@@ -22,7 +22,7 @@ use Rattle.grammar.specs.Language.{ranks}
 use Rattle.grammar.proofs.KindSets.{both as parts}
 use Rattle.grammar.proofs.Levels.{marked, few_ranks}
 use Rattle.module_token.specs.Tokens.{TextToken}
-use Rattle.module_token.specs.declared.keyword.Keyword.TheVariants as w
+use Rattle.hh_base.specs.declared.keyword.Keyword.TheVariants as w
 use Rattle.module_token.specs.declared.punct.Punct.TheVariants as punct
 use Rattle.expression_reader.specs.Terminals.{symbols}
 use Rattle.expression_reader.specs.Trees.{Name, pos_at, expr_at}

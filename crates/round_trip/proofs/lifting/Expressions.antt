@@ -16,7 +16,7 @@ use Rattle.module_tree.specs.SourceExpressions.{words_step, nesting_step, has_wr
 use Rattle.grammar.specs.Language as l
 use Rattle.grammar.specs.Language.{◌or◌}
 use Rattle.grammar.proofs.KindSets.{both as parts}
-use Rattle.module_token.specs.declared.keyword.Keyword.TheVariants as w
+use Rattle.hh_base.specs.declared.keyword.Keyword.TheVariants as w
 use Rattle.module_token.specs.declared.punct.Punct.TheVariants as punct
 use Rattle.expression_reader.specs.declared.operator.Access.{Access}
 use Rattle.expression_reader.specs.declared.operator.Access.TheVariants as reading

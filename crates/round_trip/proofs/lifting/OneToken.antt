@@ -2,18 +2,18 @@
 use Rattle.std.proofs.Common.{◌≡◌, ℕ, ◌≤◌, ◌^◌, true, false, Bool, cond, List, [], ◌∷◌, codes, decimal, refl, arith}
 use Rattle.std.specs.Str.{bytes_eq}
 use Rattle.std.proofs.lemmas.Bool.{le-leb}
-use Rattle.hh_base.specs.Keyword.{is_keyword}
+use Rattle.hh_base.specs.Keyword.{is_keyword, keyword_text}
 use Rattle.hh_base.specs.Literal as literal
 use Rattle.hh_base.specs.Text.{IsText}
 use Rattle.module_tree.specs.SourceWords.{is_written_name}
 use Rattle.grammar.specs.Language as l
 use Rattle.module_token.specs.Tokens.{TextToken}
 use Rattle.module_token.proofs.Unquoted.{value_of_quoted}
-use Rattle.module_token.specs.declared.keyword.Keyword.{Keyword}
+use Rattle.hh_base.specs.declared.keyword.Keyword.{Keyword}
 use Rattle.module_token.specs.declared.punct.Punct.{Punct}
 use Rattle.module_token.specs.declared.token.TokenKind.{TokenKind}
 use Rattle.module_token.specs.declared.token.TokenKind.TheVariants as token
-use Rattle.module_token.specs.Spelling.{keyword_text, punct_text}
+use Rattle.module_token.specs.Spelling.{punct_text}
 use Rattle.expression_reader.specs.declared.terminal.Terminal.{Terminal}
 use Rattle.expression_reader.specs.declared.terminal.Terminal.TheVariants as t
 use Rattle.expression_reader.specs.Cursor.{spelled, value_of}

@@ -21,10 +21,10 @@ use Rattle.module_tree.specs.SourceForms.{fits_name, fits_expression, fits_bindi
 use Rattle.module_tree.specs.SourceExpressions.{nesting_of}
 use Rattle.module_tree.specs.SourceNesting.{largest, nesting_of_value, nesting_of_delay}
 use Rattle.grammar.proofs.KindSets.{both as parts}
-use Rattle.module_token.specs.declared.keyword.Keyword.{Keyword}
-use Rattle.module_token.specs.declared.keyword.Keyword.TheVariants as w
+use Rattle.hh_base.specs.declared.keyword.Keyword.{Keyword}
+use Rattle.hh_base.specs.declared.keyword.Keyword.TheVariants as w
 use Rattle.module_token.specs.declared.punct.Punct.TheVariants as punct
-use Rattle.module_token.specs.Spelling.{keyword_text}
+use Rattle.hh_base.specs.Keyword.{keyword_text}
 use Rattle.expression_reader.specs.Trees.{Name, pos_at}
 use Rattle.module_reader.specs.Trees.{statement_at}
 use Rattle.module_printer.specs.ExpressionTokens.{Lexemes}

@@ -22,7 +22,7 @@ use Rattle.module_tree.specs.Source.{is_shallow, is_source}
 use Rattle.grammar.specs.Texts.{Within}
 use Rattle.grammar.proofs.KindSets.{both as parts}
 use Rattle.module_token.specs.Tokens.{TextToken}
-use Rattle.module_token.specs.declared.keyword.Keyword.TheVariants as w
+use Rattle.hh_base.specs.declared.keyword.Keyword.TheVariants as w
 use Rattle.module_token.specs.declared.punct.Punct.TheVariants as punct
 use Rattle.expression_reader.specs.Terminals.{symbols}
 use Rattle.expression_reader.specs.Trees.{Name, pos_at}

@@ -8,22 +8,22 @@ use Rattle.std.proofs.lemmas.Bool.{cases_lt, leb-true}
 use Rattle.std.proofs.lemmas.Bool.Decides.{nat_tests}
 use Rattle.std.proofs.lemmas.Fmt.{digits_decimal, decimal_nonempty, decimal_injective}
 use Rattle.unicode_ident.proofs.IdentLemmas.{is_xid_start-ascii}
-use Rattle.hh_base.specs.Keyword.{is_keyword}
+use Rattle.hh_base.specs.Keyword.{is_keyword, keyword_text, keyword_of}
 use Rattle.hh_base.specs.Name.{starts_word, is_word}
 use Rattle.hh_base.specs.Literal.{quoted}
 use Rattle.module_tree.specs.SourceWords.{is_written_name}
 use Rattle.grammar.proofs.KindSets.{both as parts}
-use Rattle.module_token.specs.declared.keyword.Keyword.{Keyword}
-use Rattle.module_token.specs.declared.keyword.Keyword.TheVariants as k
+use Rattle.hh_base.specs.declared.keyword.Keyword.{Keyword}
+use Rattle.hh_base.specs.declared.keyword.Keyword.TheVariants as k
 use Rattle.module_token.specs.declared.punct.Punct.{Punct}
 use Rattle.module_token.specs.declared.punct.Punct.TheVariants as p
 use Rattle.module_token.specs.declared.token.TokenKind.{TokenKind}
 use Rattle.module_token.specs.declared.token.TokenKind.TheVariants as token
 use Rattle.module_token.specs.Front.{short_mark, long_mark}
-use Rattle.module_token.specs.Spelling.{keyword_text, punct_text, keyword_of}
+use Rattle.module_token.specs.Spelling.{punct_text}
 use Rattle.module_token.proofs.Digits.{own}
 use Rattle.module_token.proofs.Heads.{head_ascii}
-use Rattle.module_token.proofs.Keywords.{is_keyword_spelled, keyword_spelled}
+use Rattle.hh_base.proofs.Keywords.{is_keyword_spelled, keyword_spelled}
 use Rattle.round_trip.specs.Lexemes.{IsLexeme}
 
 -- ---- by the first byte

@@ -12,18 +12,18 @@ use Rattle.std.proofs.lemmas.Str.{IsUtf8-from_ascii, is_utf8-from_IsUtf8, chars-
 use Rattle.std.proofs.lemmas.Str.Ascii.{IsAscii-nil, IsAscii-cons}
 use Rattle.unicode_ident.specs.Ident.{is_xid_continue}
 use Rattle.unicode_ident.proofs.IdentLemmas.{is_xid_start-ascii, is_xid_continue-ascii}
-use Rattle.hh_base.specs.Keyword.{is_keyword}
+use Rattle.hh_base.specs.Keyword.{is_keyword, keyword_text}
 use Rattle.hh_base.specs.Name.{starts_word, is_word}
 use Rattle.module_tree.specs.SourceWords.{is_written_name}
-use Rattle.module_token.specs.declared.keyword.Keyword.{Keyword}
-use Rattle.module_token.specs.declared.keyword.Keyword.TheVariants as k
+use Rattle.hh_base.specs.declared.keyword.Keyword.{Keyword}
+use Rattle.hh_base.specs.declared.keyword.Keyword.TheVariants as k
 use Rattle.module_token.specs.declared.punct.Punct.{Punct}
 use Rattle.module_token.specs.declared.punct.Punct.TheVariants as p
 use Rattle.module_token.specs.declared.token.TokenKind.{TokenKind}
 use Rattle.module_token.specs.declared.token.TokenKind.TheVariants as token
 use Rattle.module_token.specs.Front.{long_mark}
 use Rattle.module_token.specs.Gap.{is_blank, begins_comment}
-use Rattle.module_token.specs.Spelling.{keyword_text, punct_text}
+use Rattle.module_token.specs.Spelling.{punct_text}
 use Rattle.module_token.specs.Token.{IsToken, IsLongestWord, IsLongestNumber, IsLongestMark, goes_on}
 use Rattle.module_token.proofs.Digits.{own}
 use Rattle.module_token.proofs.Heads.{head_ascii}

@@ -13,7 +13,8 @@ use Rattle.module_token.specs.declared.punct.Punct.{Punct}
 use Rattle.module_token.specs.declared.punct.Punct.TheVariants as p
 use Rattle.module_token.specs.declared.token.TokenKind.{TokenKind}
 use Rattle.module_token.specs.declared.token.TokenKind.TheVariants as token
-use Rattle.module_token.specs.Spelling.{keyword_text, punct_text}
+use Rattle.hh_base.specs.Keyword.{keyword_text}
+use Rattle.module_token.specs.Spelling.{punct_text}
 use Rattle.module_token.proofs.Values.{before_ascii, after_ascii}
 use Rattle.round_trip.specs.Lexemes.{IsLexeme}
 use Rattle.round_trip.proofs.spelling.Blanks.{and_true, plain_word, plain_keyword}

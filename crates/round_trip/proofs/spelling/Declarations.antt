@@ -3,7 +3,7 @@ use Rattle.std.proofs.Common.{◌≡◌, ℕ, ◌≤◌, ◌^◌, true, List, Op
 use Rattle.std.specs.Prelude.{◌&&◌, codes, nat_le}
 use Rattle.std.specs.List.{list_all}
 use Rattle.std.proofs.lemmas.Bool.{leb-true}
-use Rattle.hh_base.specs.Keyword.{is_keyword}
+use Rattle.hh_base.specs.Keyword.{is_keyword, keyword_text}
 use Rattle.hh_base.specs.declared.value.Kind.{Kind}
 use Rattle.hh_base.specs.declared.value.Kind.TheVariants as kind
 use Rattle.hh_base.specs.declared.value.CombineWord.{CombineWord}
@@ -24,10 +24,9 @@ use Rattle.module_tree.specs.declared.source.Delay.TheVariants as delay
 use Rattle.module_tree.specs.SourceForms as tests
 use Rattle.module_tree.specs.SourceForms.{fits_name, fits_expression, fits_signal, fits_interface, fits_parameter, fits_later, fits_delay, fits_binding, fits_async}
 use Rattle.module_tree.specs.SourceWords.{is_written_text, is_written_value}
-use Rattle.module_token.specs.declared.keyword.Keyword.{Keyword}
-use Rattle.module_token.specs.declared.keyword.Keyword.TheVariants as k
+use Rattle.hh_base.specs.declared.keyword.Keyword.{Keyword}
+use Rattle.hh_base.specs.declared.keyword.Keyword.TheVariants as k
 use Rattle.module_token.specs.declared.punct.Punct.TheVariants as p
-use Rattle.module_token.specs.Spelling.{keyword_text}
 use Rattle.module_printer.specs.SourceTokens.{if_there, token_of_kind, token_of_combine, tokens_of_dir, tokens_of_type, tokens_of_first, tokens_of_combine, tokens_of_signal, tokens_of_interface, tokens_of_parameter, tokens_of_outermost, tokens_of_test, tokens_of_later, tokens_of_delay, tokens_of_binding, tokens_of_answer, tokens_of_handler, tokens_of_call, tokens_of_handlers, tokens_of_async, tokens_of_emission, tokens_of_run}
 use Rattle.round_trip.proofs.spelling.Blanks.{and_true}
 use Rattle.round_trip.proofs.spelling.Words.{IsSpelt, Spelt, name, plain as ascii, keyword, mark, number, text, none, more, single, both, closed, enclosed, commas, all_passed, optional}

@@ -18,7 +18,7 @@ use Rattle.module_tree.specs.declared.level.Level.TheVariants as level
 use Rattle.module_tree.specs.Parentheses.{Levelled, is_looser, level_of_op, right_of_op, levelled_step, at}
 use Rattle.module_tree.specs.SourceExpressions.{words_step, has_written_words, is_written_expression}
 use Rattle.module_tree.specs.SourceWords.{is_written_name, is_written_number, is_written_integer, is_written_value}
-use Rattle.module_token.specs.declared.keyword.Keyword.TheVariants as k
+use Rattle.hh_base.specs.declared.keyword.Keyword.TheVariants as k
 use Rattle.module_token.specs.declared.punct.Punct.TheVariants as p
 use Rattle.module_printer.specs.ExpressionTokens.{Lexemes, in_parentheses, tokens_of_integer, token_of_truth, tokens_of_value, token_of_op, token_of_rel, tokens_of_read, node_step, written, written_node, tokens_of_expression}
 use Rattle.round_trip.proofs.spelling.Blanks.{and_true}

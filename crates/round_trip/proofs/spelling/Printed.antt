@@ -11,10 +11,10 @@ use Rattle.module_tree.specs.Source.{is_source}
 use Rattle.hh_base.specs.Value.{is_valued}
 use Rattle.module_tree.specs.SourceForms.{fits_interface, fits_parameter, fits_part}
 use Rattle.module_tree.specs.SourceWords.{is_written_name}
-use Rattle.module_token.specs.declared.keyword.Keyword.{Keyword}
-use Rattle.module_token.specs.declared.keyword.Keyword.TheVariants as k
+use Rattle.hh_base.specs.declared.keyword.Keyword.{Keyword}
+use Rattle.hh_base.specs.declared.keyword.Keyword.TheVariants as k
 use Rattle.module_token.specs.declared.punct.Punct.TheVariants as p
-use Rattle.module_token.specs.Spelling.{keyword_text}
+use Rattle.hh_base.specs.Keyword.{keyword_text}
 use Rattle.module_token.specs.Tokens.{TextToken, HasTokens}
 use Rattle.round_trip.specs.Lexemes.{Spells}
 use Rattle.module_printer.specs.Printed.{printed}

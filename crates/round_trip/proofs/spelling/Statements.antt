@@ -9,7 +9,7 @@ use Rattle.module_tree.specs.declared.source.Statement.TheOpen as s
 use Rattle.module_tree.specs.declared.source.Statement.TheFolds.{fold-Statement, fold-StatementNode, fold-roll-Statement, fold-roll-StatementNode, fold-roll-BlockNode, ind-BlockNode, map-Statement, map-StatementNode, map-BlockNode}
 use Rattle.module_tree.specs.SourceForms as tests
 use Rattle.module_tree.specs.SourceForms.{fits_signal, fits_block}
-use Rattle.module_token.specs.declared.keyword.Keyword.TheVariants as k
+use Rattle.hh_base.specs.declared.keyword.Keyword.TheVariants as k
 use Rattle.module_token.specs.declared.punct.Punct.TheVariants as p
 use Rattle.module_printer.specs.ExpressionTokens.{Lexemes}
 use Rattle.module_printer.specs.SourceTokens as tokens

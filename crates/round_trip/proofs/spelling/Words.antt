@@ -4,17 +4,17 @@ use Rattle.std.specs.Prelude.{◌&&◌, not, nat_le}
 use Rattle.std.specs.Fmt.{decimal}
 use Rattle.std.specs.List.{AllByRecursion, list_all}
 use Rattle.std.proofs.lemmas.Bool.{leb-true}
-use Rattle.hh_base.specs.Keyword.{is_keyword}
+use Rattle.hh_base.specs.Keyword.{is_keyword, keyword_text}
 use Rattle.hh_base.specs.Literal.{quoted}
 use Rattle.hh_base.specs.Text.{IsText}
 use Rattle.module_tree.specs.SourceForms as tests
 use Rattle.module_tree.specs.SourceWords.{is_written_name, is_written_text}
-use Rattle.module_token.specs.declared.keyword.Keyword.{Keyword}
+use Rattle.hh_base.specs.declared.keyword.Keyword.{Keyword}
 use Rattle.module_token.specs.declared.punct.Punct.{Punct}
 use Rattle.module_token.specs.declared.punct.Punct.TheVariants as p
 use Rattle.module_token.specs.declared.token.TokenKind.{TokenKind}
 use Rattle.module_token.specs.declared.token.TokenKind.TheVariants as token
-use Rattle.module_token.specs.Spelling.{keyword_text, punct_text}
+use Rattle.module_token.specs.Spelling.{punct_text}
 use Rattle.round_trip.specs.Lexemes.{IsLexeme}
 use Rattle.module_printer.specs.ExpressionTokens.{Lexemes, in_parentheses}
 use Rattle.module_printer.specs.SourceTokens.{behind, comma_separated, if_there}

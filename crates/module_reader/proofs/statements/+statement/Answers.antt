@@ -1,5 +1,5 @@
 use Rattle.std.proofs.Common.{sym, ◌∙◌, subst}
-use Rattle.module_token.specs.declared.keyword.Keyword.TheVariants as w
+use Rattle.hh_base.specs.declared.keyword.Keyword.TheVariants as w
 use Rattle.grammar.specs.Parser.{many}
 use Rattle.grammar.proofs.Lists.{Rest, list_done, list_more, list_fails}
 use Rattle.grammar.proofs.Steps.{reads_exit}

@@ -1,5 +1,5 @@
 use Rattle.std.proofs.Common.{length, ◌+◌, ◌*◌}
-use Rattle.module_token.specs.declared.keyword.Keyword.TheVariants as w
+use Rattle.hh_base.specs.declared.keyword.Keyword.TheVariants as w
 use Rattle.grammar.specs.Parser.{many}
 use Rattle.grammar.proofs.Lists.{Rest}
 use Rattle.expression_reader.specs.Terminals.{is_keyword, is_in_curly}

@@ -1,4 +1,4 @@
-use Rattle.std.proofs.Common.{◌≡◌, ◌+◌, ◌∷◌, ◌++◌, [], ℕ, List, Some, None, inl, sym, ap, subst, ◌∙◌, arith, take, drop}
+use Rattle.std.proofs.Common.{◌≡◌, ◌+◌, ◌∷◌, ◌++◌, [], ℕ, List, Some, None, inl, refl, sym, ap, subst, ◌∙◌, arith, take, drop}
 use Rattle.std.specs.Prelude.{slice_range}
 use Rattle.std.proofs.lemmas.Str.{IsUtf8-drop, IsCharBoundary-start, IsCharBoundary-from_rest}
 use Rattle.std.proofs.lemmas.List.Elements.{All-append, All-cons, All-nil}
@@ -7,7 +7,9 @@ use Rattle.module_token.specs.Cut.{IsCut}
 use Rattle.module_token.specs.Front.{front_of}
 use Rattle.module_token.specs.Place.{InText, toks}
 use Rattle.module_token.specs.Token.{IsToken}
-use Rattle.module_token.proofs.Parted.{IsReadTo, read_none, read_gap, read_token, all_found, all_only, fault_found, fault_only, rising_on, rising_push, same_some, token_spells, toks_push}
+use Rattle.module_token.specs.Tokens.{FirstTokenFault}
+use Rattle.module_token.specs.declared.fault.TokensError.TheVariants as error
+use Rattle.module_token.proofs.Parted.{IsReadTo, read_none, read_gap, read_token, all_found, all_only, fault_found, fault_only, rising_on, rising_push, same_some, same_fault, token_spells, toks_push}
 use Rattle.module_token.proofs.tokens.tokens.Goals as goal
 
 pub loop-tokens-init : goal.loop-tokens-init
@@ -69,12 +71,13 @@ returns-in-Wrong-clause-only c ts h =
     absurd (let never : ⊥ = cc in never)
 
 pub returns-in-Wrong-clause-fault : goal.returns-in-Wrong-clause-fault
-returns-in-Wrong-clause-fault c some =
+returns-in-Wrong-clause-fault c f h =
     let at = c.loop-tokens in
+    subst (FirstTokenFault c.args.text.now) (same_fault _ refl h)
     (toks c.args.text.now at.tokens.items, fault_found c.args.text.now at.at (toks c.args.text.now at.tokens.items) (IsUtf8-drop c.args.text.now at.at c.utf8.text at.invariant.cut) at.invariant.read c.in-Wrong.len c.in-Wrong.kind (c.in-Wrong.ensures.value ∙ ap front_of c.split_at.ensures.back))
 
 pub returns-in-Wrong-clause-refused : goal.returns-in-Wrong-clause-refused
 returns-in-Wrong-clause-refused c e (ts, h) =
     let at = c.loop-tokens in
     let q = fault_only c.args.text.now at.at (toks c.args.text.now at.tokens.items) (IsUtf8-drop c.args.text.now at.at c.utf8.text at.invariant.cut) at.invariant.read c.in-Wrong.len c.in-Wrong.kind (c.in-Wrong.ensures.value ∙ ap front_of c.split_at.ensures.back) ts (Some e) h in
-    inl (sym (same_some q))
+    inl (ap error.Fault (sym (same_some q)))
