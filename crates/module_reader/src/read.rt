@@ -1,5 +1,5 @@
 //! The call that reads a module text.
-ghost use Rattle.std.specs.Prelude.{◌≡◌, ◌≢◌, ◌<◌, ◌^◌, List, All, length, IfOk, IfErr, MatchResult};
+ghost use Rattle.std.specs.Prelude.{◌≡◌, ◌<◌, ◌^◌, List, All, length, IfOk, IfErr, MatchResult};
 ghost use Rattle.module_tree.specs.declared.source.Part.{Part as ATop};
 ghost use Rattle.grammar.specs.Parser as parser;
 ghost use Rattle.grammar.specs.Parser.{Exact};
@@ -14,9 +14,8 @@ use crate::parts::{has_module, read_whole};
 use expression_reader::cursor::Reader;
 use expression_reader::fault::StepError;
 use hh_base::name::Name;
-use hh_base::value::Pos;
 use module_tree::source::{Modules, Part};
-use module_token::fault::ReadKind;
+use module_token::fault::TokensError;
 use module_token::token::Token;
 use module_token::tokens::tokens;
 use sqlite_items::Items;
@@ -36,26 +35,22 @@ fn read_tokens(alloc: Global, text: &str, tokens: &[Token]) -> Result<Items<Part
 /// tokens, that of the grammar. Places are numbers of bytes.
 ///
 /// # Errors
-/// Each kind but `NotUtf8`, which is of no text.
+/// The first fault of the text, or `NoMemory`.
 pub fn read(alloc: Global, text: &str) -> Result<Modules, ReadFault>
     requires { length text.now < 2 ^ 32 }
     // What is read is the tree of the text.
     ensures found { IfOk result (λ m. HasTree text.now m) }
     // A tree that the text has is read, unless memory runs out: so no text that is refused has one.
-    ensures only { (m : List (ATop AName)) → HasTree text.now m → MatchResult result (λ r. r ≡ m) (λ e. e.kind ≡ ReadKind.NoMemory) }
+    ensures only { (m : List (ATop AName)) → HasTree text.now m → MatchResult result (λ r. r ≡ m) (λ e. e ≡ ReadFault.NoMemory) }
     // Where it is refused, it is the first fault.
-    ensures fault { IfErr result (λ e. e.kind ≢ ReadKind.NoMemory → IsFirstFault text.now e) }
+    ensures fault { IfErr result (IsFirstFault text.now) }
     // Which fault of a number it is, its rule says.
     ensures by_rule { IfErr result (IsByRule text.now) }
 {
     let tokens = match tokens(alloc, text) {
         Ok(tokens) => tokens,
-        Err(fault) => {
-            return Err(ReadFault {
-                pos: fault.pos,
-                kind: fault.kind,
-            });
-        }
+        Err(TokensError::Fault(fault)) => return Err(ReadFault::Token(fault)),
+        Err(TokensError::NoMemory) => return Err(ReadFault::NoMemory),
     };
     match read_tokens(alloc, text, tokens.as_slice()) {
         Err(refused) => Err(as_fault(refused)),
@@ -63,10 +58,7 @@ pub fn read(alloc: Global, text: &str) -> Result<Modules, ReadFault>
             if has_module(parts.as_slice()) {
                 Ok(Modules::new(parts))
             } else {
-                Err(ReadFault {
-                    pos: Pos(0),
-                    kind: ReadKind::NoModule,
-                })
+                Err(ReadFault::NoModule)
             }
         }
     }

@@ -5,21 +5,19 @@ mod refusals;
 mod trees;
 
 use crate::read::read;
-use hh_base::value::Pos;
-use module_token::fault::ReadKind;
 use std::alloc::{AllocError, Global};
 
 fn is_read(alloc: Global, text: &str) -> bool {
     text.len() < 1 << 32 && read(alloc, text).is_ok()
 }
 
-fn is_refused(alloc: Global, text: &str, kind: ReadKind, pos: u32) -> bool {
+fn is_refused(alloc: Global, text: &str, kind: &str, pos: u32) -> bool {
     if text.len() >= 1 << 32 {
         return false;
     }
     match read(alloc, text) {
         Ok(_) => false,
-        Err(fault) => fault.kind == kind && fault.pos == Pos(pos),
+        Err(fault) => fault.word() == kind && fault.place() == pos,
     }
 }
 

@@ -1,9 +1,7 @@
 //! The examples of docs/LANGUAGE.md. Beside each stands its print: the same tokens, parted by spaces.
 
-use hh_base::value::Pos;
 use module_printer::print::print;
 use module_reader::read::read;
-use module_token::fault::ReadKind;
 use std::alloc::Global;
 use std::test::Fail;
 
@@ -203,29 +201,29 @@ module Clock ( in start , in tick , out left : int ) { every ( start . now ) { a
 ) kill \"started anew\" ; every ( tick . now ) { emit left ( left . preval - 1 ) ; } } }
 ";
 
-const FAULTS: [(&str, ReadKind, u32); 10] = [
-    ("module M() { $ }", ReadKind::BadChar, 13),
+const FAULTS: [(&str, &str, u32); 10] = [
+    ("module M() { $ }", "BadChar", 13),
     (
         "module M() { 9223372036854775809",
-        ReadKind::NumberLarge,
+        "NumberLarge",
         13,
     ),
-    ("module M() { \"ab", ReadKind::TextOpen, 13),
-    ("module M() { \"a\\r\"", ReadKind::BadEscape, 15),
-    ("module M() { /*/", ReadKind::CommentOpen, 13),
+    ("module M() { \"ab", "TextOpen", 13),
+    ("module M() { \"a\\r\"", "BadEscape", 15),
+    ("module M() { /*/", "CommentOpen", 13),
     (
         "module M() { emit a(9223372036854775808); }",
-        ReadKind::NumberLarge,
+        "NumberLarge",
         20,
     ),
-    ("module M() { emit; }", ReadKind::Unexpected, 17),
-    ("module M() {", ReadKind::EndOfText, 12),
+    ("module M() { emit; }", "Unexpected", 17),
+    ("module M() {", "EndOfText", 12),
     (
         "module M() { await count(0, a.now); }",
-        ReadKind::BadCount,
+        "BadCount",
         25,
     ),
-    ("body twice(n: int): int { n * 2 }", ReadKind::NoModule, 0),
+    ("body twice(n: int): int { n * 2 }", "NoModule", 0),
 ];
 
 /// What is printed of a text that is read.
@@ -309,7 +307,7 @@ fn refuses_faults(rt: HostRuntime) -> Result<(), Fail> {
         }
         match read(rt.alloc(), text) {
             Ok(_) => return Err(Fail::new("a fault is read")),
-            Err(fault) => assert!(rt; fault.kind == kind && fault.pos == Pos(pos), "{text}"),
+            Err(fault) => assert!(rt; fault.word() == kind && fault.place() == pos, "{text}"),
         }
     }
     Ok(())

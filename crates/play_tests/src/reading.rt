@@ -4,7 +4,6 @@ use module_tree::source::Modules;
 use module_printer::print::print;
 use module_reader::fault::ReadFault;
 use module_reader::read::read;
-use module_token::fault::ReadKind;
 use std::alloc::Global;
 use std::test::Fail;
 
@@ -383,17 +382,17 @@ fn broken_word(text: &str, end: usize) -> Option<usize> {
 }
 
 /// The fault of the login text that is cut off at this place.
-fn fault_of_cut(text: &str, end: usize) -> Option<(ReadKind, usize)> {
+fn fault_of_cut(text: &str, end: usize) -> Option<(&'static str, usize)> {
     if let Some(quote) = open_quote(text.get(..end)?) {
-        return Some((ReadKind::TextOpen, quote));
+        return Some(("TextOpen", quote));
     }
     if let Some(word) = broken_word(text, end) {
-        return Some((ReadKind::Unexpected, word));
+        return Some(("Unexpected", word));
     }
     if CUTS_BEFORE_MODULE.contains(&end) {
-        return Some((ReadKind::NoModule, 0));
+        return Some(("NoModule", 0));
     }
-    Some((ReadKind::EndOfText, end))
+    Some(("EndOfText", end))
 }
 
 fn fault_of(alloc: Global, text: &str) -> Result<ReadFault, Fail> {
@@ -418,8 +417,8 @@ fn faults_of_cuts(alloc: Global, text: &str) -> Result<Vec<ReadFault>, Fail> {
     Ok(faults)
 }
 
-fn count_of(faults: &[ReadFault], kind: ReadKind) -> usize {
-    faults.iter().filter(|fault| fault.kind == kind).count()
+fn count_of(faults: &[ReadFault], kind: &str) -> usize {
+    faults.iter().filter(|fault| fault.word() == kind).count()
 }
 
 // Whatever stands before the cut is no fault: it comes at the token that the cut goes through, or at the end.
@@ -428,12 +427,12 @@ fn refuses_each_prefix_at_its_end(rt: HostRuntime) -> Result<(), Fail> {
     let text = LOGIN.trim_end();
     let faults = faults_of_cuts(rt.alloc(), text)?;
     for (end, fault) in faults.iter().enumerate() {
-        let found = Some((fault.kind, fault.pos.0 as usize));
+        let found = Some((fault.word(), fault.place() as usize));
         assert!(rt; found == fault_of_cut(text, end), "{end}");
     }
-    assert_eq!(rt; count_of(&faults, ReadKind::EndOfText), 383);
-    assert_eq!(rt; count_of(&faults, ReadKind::Unexpected), 126);
-    assert_eq!(rt; count_of(&faults, ReadKind::TextOpen), 50);
-    assert_eq!(rt; count_of(&faults, ReadKind::NoModule), 5);
+    assert_eq!(rt; count_of(&faults, "EndOfText"), 383);
+    assert_eq!(rt; count_of(&faults, "Unexpected"), 126);
+    assert_eq!(rt; count_of(&faults, "TextOpen"), 50);
+    assert_eq!(rt; count_of(&faults, "NoModule"), 5);
     Ok(())
 }

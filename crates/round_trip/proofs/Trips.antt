@@ -3,7 +3,7 @@ use Rattle.std.proofs.Common.{◌≡◌, ℕ, true, List, map, Result, Ok, Err, 
 use Rattle.std.specs.Prelude.{IfOk, IfErr, MatchResult}
 use Rattle.module_tree.specs.declared.source.Part.{Part}
 use Rattle.module_tree.specs.Source.{is_source}
-use Rattle.module_token.specs.declared.fault.ReadKind.TheVariants as k
+use Rattle.module_reader.specs.declared.fault.ReadFault.TheVariants as fault
 use Rattle.module_printer.specs.Printed.{printed}
 use Rattle.module_reader.specs.declared.fault.ReadFault.{ReadFault}
 use Rattle.module_reader.specs.Reading.{to_grammar, HasTree}
@@ -25,10 +25,10 @@ is_source_tree text m h = written m (map to_grammar h.tokens) (all_lawful h.has_
 
 -- what is read where each tree of the text is read, unless memory runs out
 module _ (m : List (Part (List ℕ))) (source : is_source m ≡ true) where
-  by_tree : (tree : List (Part (List ℕ))) → SameButPlaces tree m → (result : Result (List (Part (List ℕ))) ReadFault) → MatchResult result (λ r. r ≡ tree) (λ e. e.kind ≡ k.NoMemory) → IfOk result (λ r. SameButPlaces r m) × IfErr result (λ e. e.kind ≡ k.NoMemory)
+  by_tree : (tree : List (Part (List ℕ))) → SameButPlaces tree m → (result : Result (List (Part (List ℕ))) ReadFault) → MatchResult result (λ r. r ≡ tree) (λ e. e ≡ fault.NoMemory) → IfOk result (λ r. SameButPlaces r m) × IfErr result (λ e. e ≡ fault.NoMemory)
   by_tree tree same (Ok r) e = (subst (λ t. SameButPlaces t m) (sym e) same, tt)
   by_tree tree same (Err e) h = (tt, h)
 
-  pub read_back : (result : Result (List (Part (List ℕ))) ReadFault) → ((tree : List (Part (List ℕ))) → HasTree (printed m) tree → MatchResult result (λ r. r ≡ tree) (λ e. e.kind ≡ k.NoMemory))
-      → IfOk result (λ r. SameButPlaces r m) × IfErr result (λ e. e.kind ≡ k.NoMemory)
+  pub read_back : (result : Result (List (Part (List ℕ))) ReadFault) → ((tree : List (Part (List ℕ))) → HasTree (printed m) tree → MatchResult result (λ r. r ≡ tree) (λ e. e ≡ fault.NoMemory))
+      → IfOk result (λ r. SameButPlaces r m) × IfErr result (λ e. e ≡ fault.NoMemory)
   read_back result only = let text = has_text m source in by_tree text.read text.same result (only text.read text.has_tree)

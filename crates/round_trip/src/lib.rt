@@ -9,12 +9,10 @@ ghost use Rattle.round_trip.specs.Trips.{EachSourceTreeHasAText, EachTreeOfAText
 #[cfg(test)]
 mod tests;
 
-use hh_base::value::Pos;
 use module_tree::source::Modules;
 use module_printer::print::print;
 use module_reader::fault::ReadFault;
 use module_reader::read::read;
-use module_token::fault::ReadKind;
 use std::alloc::Global;
 
 /// A law: the tests of a source tree, which `Modules` keeps, say which trees a text has, but for places. The call
@@ -31,15 +29,12 @@ pub fn source_trees()
 pub fn read_back(alloc: Global, modules: &Modules) -> Result<Modules, ReadFault>
     requires { length (printed modules.now) < 2 ^ 32 }
     ensures same { IfOk result (λ m. SameButPlaces m modules.now) }
-    ensures fault { IfErr result (λ e. e.kind ≡ ReadKind.NoMemory) }
+    ensures fault { IfErr result (λ e. e ≡ ReadFault.NoMemory) }
 {
     // What a source tree keeps is told by the call that shows it.
     let _tops = modules.parts();
     let Ok(bytes) = print(alloc, modules) else {
-        return Err(ReadFault {
-            pos: Pos(0),
-            kind: ReadKind::NoMemory,
-        });
+        return Err(ReadFault::NoMemory);
     };
     let Ok(text) = str::from_utf8(bytes.as_slice()) else {
         unreachable!()

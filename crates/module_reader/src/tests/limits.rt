@@ -1,7 +1,6 @@
 //! Texts at the limits of nesting and of sizes, as the pieces that they are made of, each so often.
 
 use super::{is_read, is_refused, repeated};
-use module_token::fault::ReadKind;
 use std::alloc::Global;
 use std::process::Abort;
 use std::test::Fail;
@@ -33,21 +32,21 @@ const DEEPEST: [&[(&str, usize)]; 4] = [
 ];
 
 /// Texts with more brackets, or with a fault that comes before.
-const TOO_DEEP: [(&[(&str, usize)], ReadKind, u32); 7] = [
+const TOO_DEEP: [(&[(&str, usize)], &str, u32); 7] = [
     (
         &[("module M() ", 1), ("{", 129), ("}", 129)],
-        ReadKind::DeepNesting,
+        "DeepNesting",
         139,
     ),
     (
         &[("module M() ", 1), ("{", 129)],
-        ReadKind::DeepNesting,
+        "DeepNesting",
         139,
     ),
-    (&[("module M() ", 1), ("{", 128)], ReadKind::EndOfText, 139),
+    (&[("module M() ", 1), ("{", 128)], "EndOfText", 139),
     (
         &[("module M() ", 1), ("{", 128), ("if {", 1), ("}", 128)],
-        ReadKind::Unexpected,
+        "Unexpected",
         142,
     ),
     (
@@ -58,7 +57,7 @@ const TOO_DEEP: [(&[(&str, usize)], ReadKind, u32); 7] = [
             (")", 127),
             (") {} }", 1),
         ],
-        ReadKind::DeepNesting,
+        "DeepNesting",
         143,
     ),
     (
@@ -69,7 +68,7 @@ const TOO_DEEP: [(&[(&str, usize)], ReadKind, u32); 7] = [
             (")", 127),
             (") {} }", 1),
         ],
-        ReadKind::Unexpected,
+        "Unexpected",
         144,
     ),
     (
@@ -80,7 +79,7 @@ const TOO_DEEP: [(&[(&str, usize)], ReadKind, u32); 7] = [
             (")", 128),
             (" } module M() {}", 1),
         ],
-        ReadKind::DeepNesting,
+        "DeepNesting",
         143,
     ),
 ];
@@ -139,14 +138,14 @@ const LARGEST: [&[(&str, usize)]; 4] = [
 ];
 
 /// Texts with one leaf or operator more, or with a fault at that token that comes before.
-const TOO_LARGE: [(&[(&str, usize)], ReadKind, u32); 10] = [
+const TOO_LARGE: [(&[(&str, usize)], &str, u32); 10] = [
     (
         &[
             ("body f(): int { - 1", 1),
             ("+ 1", 512),
             ("} module M() {}", 1),
         ],
-        ReadKind::ExprLarge,
+        "ExprLarge",
         1552,
     ),
     (
@@ -155,7 +154,7 @@ const TOO_LARGE: [(&[(&str, usize)], ReadKind, u32); 10] = [
             ("+ 1", 512),
             ("} module M() {}", 1),
         ],
-        ReadKind::ExprLarge,
+        "ExprLarge",
         1552,
     ),
     (
@@ -164,7 +163,7 @@ const TOO_LARGE: [(&[(&str, usize)], ReadKind, u32); 10] = [
             ("+ 1", 511),
             ("? 1 : 2 } module M() {}", 1),
         ],
-        ReadKind::ExprLarge,
+        "ExprLarge",
         1552,
     ),
     (
@@ -173,7 +172,7 @@ const TOO_LARGE: [(&[(&str, usize)], ReadKind, u32); 10] = [
             ("1+", 512),
             ("-1 } module M() {}", 1),
         ],
-        ReadKind::ExprLarge,
+        "ExprLarge",
         1040,
     ),
     (
@@ -182,7 +181,7 @@ const TOO_LARGE: [(&[(&str, usize)], ReadKind, u32); 10] = [
             ("1+", 512),
             ("(1) } module M() {}", 1),
         ],
-        ReadKind::ExprLarge,
+        "ExprLarge",
         1041,
     ),
     (
@@ -191,7 +190,7 @@ const TOO_LARGE: [(&[(&str, usize)], ReadKind, u32); 10] = [
             ("a.now||", 511),
             ("a.now ? 1 : 2 } module M() {}", 1),
         ],
-        ReadKind::ExprLarge,
+        "ExprLarge",
         3602,
     ),
     (
@@ -202,7 +201,7 @@ const TOO_LARGE: [(&[(&str, usize)], ReadKind, u32); 10] = [
             ("1+", 512),
             ("1); }", 1),
         ],
-        ReadKind::ExprLarge,
+        "ExprLarge",
         2076,
     ),
     (
@@ -211,7 +210,7 @@ const TOO_LARGE: [(&[(&str, usize)], ReadKind, u32); 10] = [
             ("+ 1", 511),
             ("! } module M() {}", 1),
         ],
-        ReadKind::Unexpected,
+        "Unexpected",
         1552,
     ),
     (
@@ -220,7 +219,7 @@ const TOO_LARGE: [(&[(&str, usize)], ReadKind, u32); 10] = [
             ("+ 1", 511),
             (" 1 } module M() {}", 1),
         ],
-        ReadKind::Unexpected,
+        "Unexpected",
         1553,
     ),
     (
@@ -229,7 +228,7 @@ const TOO_LARGE: [(&[(&str, usize)], ReadKind, u32); 10] = [
             ("1+", 512),
             ("9223372036854775808 } module M() {}", 1),
         ],
-        ReadKind::NumberLarge,
+        "NumberLarge",
         1040,
     ),
 ];
@@ -241,16 +240,16 @@ const LONGEST: [&[(&str, usize)]; 2] = [
 ];
 
 /// Names and texts that are one byte longer.
-const TOO_LONG: [(&[(&str, usize)], ReadKind, u32); 3] = [
+const TOO_LONG: [(&[(&str, usize)], &str, u32); 3] = [
     (
         &[("module ", 1), ("a", 256), ("() {}", 1)],
-        ReadKind::NameLong,
+        "NameLong",
         7,
     ),
-    (&[("module M() { ", 1), ("a", 256)], ReadKind::NameLong, 13),
+    (&[("module M() { ", 1), ("a", 256)], "NameLong", 13),
     (
         &[("module M(in T: text = \"", 1), ("a", 4097), ("\") {}", 1)],
-        ReadKind::TextLong,
+        "TextLong",
         22,
     ),
 ];
@@ -266,7 +265,7 @@ fn read_all(rt: &impl Abort, alloc: Global, rows: &[&[(&str, usize)]]) -> Result
 fn refuse_all(
     rt: &impl Abort,
     alloc: Global,
-    rows: &[(&[(&str, usize)], ReadKind, u32)],
+    rows: &[(&[(&str, usize)], &str, u32)],
 ) -> Result<(), Fail> {
     for (row, (pieces, kind, pos)) in rows.iter().enumerate() {
         let text = repeated(alloc, pieces)?;
@@ -303,7 +302,7 @@ fn keeps_depth_at_each_bracket(rt: HostRuntime) -> Result<(), Fail> {
         ];
         let deeper = repeated(alloc, &pieces)?;
         assert!(rt;
-            is_refused(alloc, deeper.as_str(), ReadKind::DeepNesting, pos),
+            is_refused(alloc, deeper.as_str(), "DeepNesting", pos),
             "{statement}"
         );
     }

@@ -1,7 +1,6 @@
 //! Texts that are refused, each with the place of its first fault.
 
 use super::is_refused;
-use module_token::fault::ReadKind;
 use std::alloc::Global;
 use std::process::Abort;
 
@@ -237,40 +236,40 @@ const BAD_COUNTS: [(&str, u32); 8] = [
 ];
 
 /// Texts that are not made of tokens: their fault comes before each of the grammar.
-const NO_TOKENS: [(&str, ReadKind, u32); 10] = [
-    ("module M() { $ }", ReadKind::BadChar, 13),
-    ("module M() { if & }", ReadKind::BadChar, 16),
-    ("module M() { if } /* ", ReadKind::CommentOpen, 18),
-    ("module M() {} /*/", ReadKind::CommentOpen, 14),
-    ("module M() { pause; } \"", ReadKind::TextOpen, 22),
+const NO_TOKENS: [(&str, &str, u32); 10] = [
+    ("module M() { $ }", "BadChar", 13),
+    ("module M() { if & }", "BadChar", 16),
+    ("module M() { if } /* ", "CommentOpen", 18),
+    ("module M() {} /*/", "CommentOpen", 14),
+    ("module M() { pause; } \"", "TextOpen", 22),
     (
         "module M() { async call f() kill \"k\\",
-        ReadKind::TextOpen,
+        "TextOpen",
         33,
     ),
     (
         "module M() { async call f() kill \"k\t\"; }",
-        ReadKind::TextOpen,
+        "TextOpen",
         33,
     ),
     (
         "module M() { async call f() kill \"k\n\"; }",
-        ReadKind::TextOpen,
+        "TextOpen",
         33,
     ),
     (
         "module M() { async call f() kill \"k\\\n\"; }",
-        ReadKind::BadEscape,
+        "BadEscape",
         35,
     ),
     (
         "module M() { async call f() kill \"k\\r\"; }",
-        ReadKind::BadEscape,
+        "BadEscape",
         35,
     ),
 ];
 
-fn refuse_all(rt: &impl Abort, alloc: Global, rows: &[(&str, u32)], kind: ReadKind) {
+fn refuse_all(rt: &impl Abort, alloc: Global, rows: &[(&str, u32)], kind: &str) {
     for (text, pos) in rows.iter() {
         assert!(rt; is_refused(alloc, text, kind, *pos), "{text}");
     }
@@ -278,24 +277,24 @@ fn refuse_all(rt: &impl Abort, alloc: Global, rows: &[(&str, u32)], kind: ReadKi
 
 #[test]
 fn refuses_tokens_that_may_not_stand_there(rt: HostRuntime) {
-    refuse_all(&rt, rt.alloc(), &TOPS, ReadKind::Unexpected);
-    refuse_all(&rt, rt.alloc(), &SIGNALS, ReadKind::Unexpected);
-    refuse_all(&rt, rt.alloc(), &STATEMENTS, ReadKind::Unexpected);
-    refuse_all(&rt, rt.alloc(), &DELAYS, ReadKind::Unexpected);
-    refuse_all(&rt, rt.alloc(), &CALLS, ReadKind::Unexpected);
-    refuse_all(&rt, rt.alloc(), &EXPRESSIONS, ReadKind::Unexpected);
+    refuse_all(&rt, rt.alloc(), &TOPS, "Unexpected");
+    refuse_all(&rt, rt.alloc(), &SIGNALS, "Unexpected");
+    refuse_all(&rt, rt.alloc(), &STATEMENTS, "Unexpected");
+    refuse_all(&rt, rt.alloc(), &DELAYS, "Unexpected");
+    refuse_all(&rt, rt.alloc(), &CALLS, "Unexpected");
+    refuse_all(&rt, rt.alloc(), &EXPRESSIONS, "Unexpected");
 }
 
 #[test]
 fn refuses_texts_that_end(rt: HostRuntime) {
-    refuse_all(&rt, rt.alloc(), &ENDS, ReadKind::EndOfText);
+    refuse_all(&rt, rt.alloc(), &ENDS, "EndOfText");
 }
 
 #[test]
 fn refuses_texts_without_a_module(rt: HostRuntime) {
     for text in NO_MODULE {
         assert!(rt;
-            is_refused(rt.alloc(), text, ReadKind::NoModule, 0),
+            is_refused(rt.alloc(), text, "NoModule", 0),
             "{text}"
         );
     }
@@ -303,8 +302,8 @@ fn refuses_texts_without_a_module(rt: HostRuntime) {
 
 #[test]
 fn refuses_numbers(rt: HostRuntime) {
-    refuse_all(&rt, rt.alloc(), &LARGE_NUMBERS, ReadKind::NumberLarge);
-    refuse_all(&rt, rt.alloc(), &BAD_COUNTS, ReadKind::BadCount);
+    refuse_all(&rt, rt.alloc(), &LARGE_NUMBERS, "NumberLarge");
+    refuse_all(&rt, rt.alloc(), &BAD_COUNTS, "BadCount");
 }
 
 #[test]

@@ -1,11 +1,9 @@
-use Rattle.std.proofs.Common.{◌≡◌, ◌≢◌, Some, Err, map, length, sym, ap, subst, ◌∙◌}
-use Rattle.grammar.specs.Parser.{start, whole}
-use Rattle.module_token.specs.declared.fault.ReadKind.TheVariants as k
+use Rattle.std.proofs.Common.{◌≡◌, map, sym, ap, subst, ◌∙◌}
+use Rattle.module_reader.specs.declared.fault.ReadFault.TheVariants as fault
 use Rattle.module_token.specs.Place as place
 use Rattle.module_reader.specs.declared.fault.ReadFault.{ReadFault}
 use Rattle.expression_reader.specs.Cursor as cursor
-use Rattle.module_reader.specs.Reading.{to_grammar, fault_of, HasTree, IsFirstFault}
-use Rattle.module_reader.specs.Reference as rule
+use Rattle.module_reader.specs.Reading.{to_grammar, HasTree, IsFirstFault, IsByRule}
 use Rattle.module_reader.specs.Trees.{has_module}
 use Rattle.module_reader.proofs.RealTokens.{same_tokens}
 use Rattle.module_reader.proofs.ReadTexts as reading
@@ -15,23 +13,22 @@ pub returns-in-Err-read_tokens-clause-only : goal.returns-in-Err-read_tokens-cla
 returns-in-Err-read_tokens-clause-only c = λ m h.
     let text = c.args.text.now in
     let same = ap (map to_grammar) (sym (c.in-Ok.ensures.only h.tokens h.has_tokens)) ∙ (same_tokens text c.in-Ok.tokens.items ∙ ap (cursor.toks text) (sym c.as_slice.ensures.value)) in
-    subst (λ (f : ReadFault). f.kind ≡ k.NoMemory) (sym c.as_fault.ensures)
+    subst (λ (f : ReadFault). f ≡ fault.NoMemory) (sym c.as_fault.ensures)
     (reading.only_memory text h.tokens h.has_tokens (cursor.toks text c.as_slice.result.now) same c.in-Err-read_tokens.refused c.in-Err-read_tokens.ensures m h.spells)
 
 pub returns-in-Err-read_tokens-clause-fault : goal.returns-in-Err-read_tokens-clause-fault
-returns-in-Err-read_tokens-clause-fault c = λ ne.
+returns-in-Err-read_tokens-clause-fault c =
     let text = c.args.text.now in
     let same = same_tokens text c.in-Ok.tokens.items ∙ ap (cursor.toks text) (sym c.as_slice.ensures.value) in
     subst (IsFirstFault text) (sym c.as_fault.ensures)
-    (reading.of_grammar text (place.toks text c.in-Ok.tokens.items) c.in-Ok.ensures.found (cursor.toks text c.as_slice.result.now) same c.in-Err-read_tokens.refused c.in-Err-read_tokens.ensures
-    (subst (λ (f : ReadFault). f.kind ≢ k.NoMemory) c.as_fault.ensures ne))
+    (reading.of_grammar text (place.toks text c.in-Ok.tokens.items) c.in-Ok.ensures.found (cursor.toks text c.as_slice.result.now) same c.in-Err-read_tokens.refused c.in-Err-read_tokens.ensures)
 
 pub returns-in-Err-read_tokens-clause-by_rule : goal.returns-in-Err-read_tokens-clause-by_rule
-returns-in-Err-read_tokens-clause-by_rule c = λ tokens f has kind.
+returns-in-Err-read_tokens-clause-by_rule c =
     let text = c.args.text.now in
-    let same = ap (map to_grammar) (sym (c.in-Ok.ensures.only tokens has)) ∙ (same_tokens text c.in-Ok.tokens.items ∙ ap (cursor.toks text) (sym c.as_slice.ensures.value)) in
-    subst (λ (e : ReadFault). whole (rule.parts 128) (start (map to_grammar tokens) (length text)) ≡ Err (record { place = e.pos.0; fault = f })) (sym c.as_fault.ensures)
-    (reading.by_rule text tokens has (cursor.toks text c.as_slice.result.now) same c.in-Err-read_tokens.refused c.in-Err-read_tokens.ensures f (subst (λ (e : ReadFault). fault_of e.kind ≡ Some f) c.as_fault.ensures kind))
+    let same = same_tokens text c.in-Ok.tokens.items ∙ ap (cursor.toks text) (sym c.as_slice.ensures.value) in
+    subst (IsByRule text) (sym c.as_fault.ensures)
+    (reading.by_rule text (cursor.toks text c.as_slice.result.now) (λ tokens has. ap (map to_grammar) (sym (c.in-Ok.ensures.only tokens has)) ∙ same) c.in-Err-read_tokens.refused c.in-Err-read_tokens.ensures)
 
 pub new-requires : goal.new-requires
 new-requires c =
@@ -62,7 +59,7 @@ returns-clause-only c = λ m h.
     reading.only_module text h.tokens h.has_tokens (cursor.toks text c.as_slice.result.now) same c.in-Ok-read_tokens.parts (has ∙ c.if-has_module.false) c.in-Ok-read_tokens.ensures m h.spells
 
 pub returns-clause-fault : goal.returns-clause-fault
-returns-clause-fault c = λ ne.
+returns-clause-fault c =
     let text = c.args.text.now in
     let same = same_tokens text c.in-Ok.tokens.items ∙ ap (cursor.toks text) (sym c.as_slice.ensures.value) in
     let has : has_module c.in-Ok-read_tokens.parts ≡ c.has_module.result = ap has_module (sym c.as_slice-in-Ok-read_tokens.ensures) ∙ sym c.has_module.ensures in
