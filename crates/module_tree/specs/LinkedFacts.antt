@@ -24,7 +24,7 @@ use Rattle.module_tree.specs.declared.source.ModuleNode.{ModuleNode}
 use Rattle.module_tree.specs.declared.source.Part.{Part}
 use Rattle.module_tree.specs.declared.source.Part.TheVariants as top
 use Rattle.module_tree.specs.Scopes.{Signal, InScope, signal_at, trap_at}
-use Rattle.module_tree.specs.Parts.{Part, Test, Times, Emission, Locals, Exit, Call, Start, Placed, parts_of, expressions_of, signals_named, parameters_named}
+use Rattle.module_tree.specs.Parts.{StatementPart, Test, Times, Emission, Locals, Exit, Call, Start, Placed, parts_of, expressions_of, signals_named, parameters_named}
 use Rattle.module_tree.specs.Callables.{Signature, modules_of, signatures_of, interfaces_of}
 
 -- ---- what the parts are judged against: the interfaces of all modules, the signatures of all bodies and hosts, and the
@@ -35,7 +35,7 @@ pub record Known : Type 0 where
   pub signatures : List Signature
   pub kinds : List Kind
 
-abbrev pub locals_of : {R : Type 0} → Part R → List SignalNode
+abbrev pub locals_of : {R : Type 0} → StatementPart R → List SignalNode
 locals_of (Locals signals) = signals
 locals_of _ = []
 
@@ -53,7 +53,7 @@ in_each_part test parts = list_all (λ (m : ModuleNode ℕ). list_all (test (kno
 -- ---- places
 
 -- the trap round a `break`, the module that is run, the body that is called are there
-abbrev pub refers : Known → InScope → Part ℕ → Bool
+abbrev pub refers : Known → InScope → StatementPart ℕ → Bool
 refers known scope (Exit t) = is_some (trap_at scope t.name)
 refers known scope (Call callee bindings) = is_some (slice_get known.interfaces callee.name)
 refers known scope (Start a) = is_some (slice_get known.signatures a.body.name)
@@ -134,7 +134,7 @@ each_bound test bindings (Some interface) = each_binding test bindings interface
 
 -- kinds fit: a test is `bool`, and an emission, a first value, a combine word, an argument, a result and a bound signal
 -- have the kind of their place
-abbrev pub kinds_fit : Known → Part ℕ → Bool
+abbrev pub kinds_fit : Known → StatementPart ℕ → Bool
 kinds_fit known (Test x) = has_kind known.kinds [] kind.Bool x
 kinds_fit known (Emission n value) = emission_fits known.kinds (slice_get known.kinds n.name) value
 kinds_fit known (Times n) = true
@@ -169,7 +169,7 @@ result_emits scope None = true
 result_emits scope (Some n) = emits_in_scope scope n.name
 
 -- no `in` signal is emitted, takes an answer, or is bound to a signal that the module which is run may emit
-abbrev pub no_input_emitted : Known → InScope → Part ℕ → Bool
+abbrev pub no_input_emitted : Known → InScope → StatementPart ℕ → Bool
 no_input_emitted known scope (Emission n value) = emits_in_scope scope n.name
 no_input_emitted known scope (Start a) = result_emits scope a.signal
 no_input_emitted known scope (Call callee bindings) =
@@ -183,7 +183,7 @@ places_from n [] = true
 places_from n (b ∷ bs) = (b.left.name == n) && places_from (n + 1) bs
 
 -- a run has one binding for each interface signal of the module that it runs, in its order
-abbrev pub binds_interface : Known → Part ℕ → Bool
+abbrev pub binds_interface : Known → StatementPart ℕ → Bool
 binds_interface known (Call callee bindings) = places_from 0 bindings && each_bound (λ b d. true) bindings (slice_get known.interfaces callee.name)
 binds_interface known _ = true
 
@@ -198,7 +198,7 @@ declares_once (top.Module m) = names_differ (map (λ (d : InterfaceNode). d.sign
 declares_once (top.Body b) = names_differ (map (λ (p : ParameterNode). p.name) b.parameters)
 declares_once (top.Host h) = true
 
-abbrev pub locals_differ : Part ℕ → Bool
+abbrev pub locals_differ : StatementPart ℕ → Bool
 locals_differ (Locals signals) = names_differ (map (λ (s : SignalNode). s.name) signals)
 locals_differ _ = true
 
@@ -214,11 +214,11 @@ abbrev pub is_small : ExprAt ℕ → Bool
 is_small x = nat_le (leaves_and_operators (expression_of x.expr)) 1024
 
 -- a `count` is 1 to 64
-abbrev pub counts : Part ℕ → Bool
+abbrev pub counts : StatementPart ℕ → Bool
 counts (Times n) = nat_le 1 n && nat_le n 64
 counts _ = true
 
-abbrev pub is_limited : Part ℕ → Bool
+abbrev pub is_limited : StatementPart ℕ → Bool
 is_limited part = counts part && list_all is_small (expressions_of part)
 
 -- parameters and the answers of bodies are valued, and interface signals have a direction of an interface

@@ -21,25 +21,25 @@ use Rattle.module_tree.specs.declared.source.Delay.{Delay}
 use Rattle.module_tree.specs.declared.source.Delay.TheVariants as delay
 use Rattle.module_tree.specs.Scopes.{InScope, Declared, interface_signals, with_signals, with_trap}
 
-pub data Part (R : Type 0) : Type 0 where
+pub data StatementPart (R : Type 0) : Type 0 where
   -- an expression that has to be true or false: of an `if`, a `suspend` or a delay
-  Test : (x : ExprAt R) → Part R
+  Test : (x : ExprAt R) → StatementPart R
   -- how often it has to be true: of a `count`
-  Times : (n : ℕ) → Part R
+  Times : (n : ℕ) → StatementPart R
   -- `emit` or `sustain`
-  Emission : (signal : NameAt R) (value : Option (ExprAt R)) → Part R
+  Emission : (signal : NameAt R) (value : Option (ExprAt R)) → StatementPart R
   -- a `signal` list
-  Locals : (signals : List SignalNode) → Part R
+  Locals : (signals : List SignalNode) → StatementPart R
   -- `break`
-  Exit : (trap : NameAt R) → Part R
+  Exit : (trap : NameAt R) → StatementPart R
   -- `run`
-  Call : (callee : NameAt R) (bindings : List (Binding R)) → Part R
+  Call : (callee : NameAt R) (bindings : List (Binding R)) → StatementPart R
   -- `async`
-  Start : (a : AsyncNode R) → Part R
+  Start : (a : AsyncNode R) → StatementPart R
 
 pub record Placed (R : Type 0) : Type 0 where
   pub scope : InScope
-  pub part : Part R
+  pub part : StatementPart R
 
 -- the parts of a piece of the text, and what is declared before its end
 pub record Walked (R : Type 0) : Type 0 where
@@ -53,7 +53,7 @@ Walk R = InScope → Declared → Walked R
 abbrev pub empty : {R : Type 0} → Walk R
 empty scope before = record { parts = []; after = before }
 
-abbrev pub here : {R : Type 0} → Part R → Walk R
+abbrev pub here : {R : Type 0} → StatementPart R → Walk R
 here part scope before = record { parts = record { scope = scope; part = part } ∷ []; after = before }
 
 abbrev pub joined : {R : Type 0} → List (Placed R) → Walked R → Walked R
@@ -161,21 +161,21 @@ abbrev pub if_any : {A : Type 0} → Option A → List A
 if_any None = []
 if_any (Some a) = a ∷ []
 
-abbrev pub expressions_of : {R : Type 0} → Part R → List (ExprAt R)
+abbrev pub expressions_of : {R : Type 0} → StatementPart R → List (ExprAt R)
 expressions_of (Test x) = x ∷ []
 expressions_of (Emission n value) = if_any value
 expressions_of (Start a) = a.args
 expressions_of _ = []
 
 -- the signals that it emits, answers to or binds
-abbrev pub signals_written : {R : Type 0} → Part R → List (NameAt R)
+abbrev pub signals_written : {R : Type 0} → StatementPart R → List (NameAt R)
 signals_written (Emission n value) = n ∷ []
 signals_written (Call callee bindings) = map (λ b. b.right) bindings
 signals_written (Start a) = if_any a.signal
 signals_written _ = []
 
-abbrev pub signals_named : {R : Type 0} → Part R → List (NameAt R)
+abbrev pub signals_named : {R : Type 0} → StatementPart R → List (NameAt R)
 signals_named {R} part = signals_written part ++ flat_map (λ (x : ExprAt R). signals_read x.expr) (expressions_of part)
 
-abbrev pub parameters_named : {R : Type 0} → Part R → List (NameAt R)
+abbrev pub parameters_named : {R : Type 0} → StatementPart R → List (NameAt R)
 parameters_named {R} part = flat_map (λ (x : ExprAt R). parameters_read x.expr) (expressions_of part)

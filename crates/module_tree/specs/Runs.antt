@@ -5,10 +5,10 @@ use Rattle.std.specs.Prelude.{ℕ, ◌==◌, ◌&&◌, Bool, true, List, [], ◌
 use Rattle.std.specs.List.{flat_map, list_all, list_any, range_with_len}
 use Rattle.module_tree.specs.declared.source.ModuleNode.{ModuleNode}
 use Rattle.module_tree.specs.declared.source.Part.{Part}
-use Rattle.module_tree.specs.Parts.{Part, Call, Placed, parts_of}
+use Rattle.module_tree.specs.Parts.{StatementPart, Call, Placed, parts_of}
 use Rattle.module_tree.specs.Callables.{modules_of}
 
-abbrev pub callee_of : Part ℕ → List ℕ
+abbrev pub callee_of : StatementPart ℕ → List ℕ
 callee_of (Call callee bindings) = callee.name ∷ []
 callee_of _ = []
 
