@@ -1,5 +1,5 @@
 -- Each rule of expressions is read as its language.
-use Rattle.std.proofs.Common.{◌≡◌, ℕ, zero, suc, ◌<◌, pos, Bool, true, false, Option, Some, None, refl, arith}
+use Rattle.std.proofs.Common.{◌≡◌, ℕ, zero, suc, ◌<◌, pos, Bool, true, false, Option, Some, None, refl, sym, subst, arith}
 use Rattle.std.specs.Prelude.{◌||◌}
 use Rattle.hh_base.specs.declared.keyword.Keyword.{Keyword}
 use Rattle.hh_base.specs.declared.keyword.Keyword.TheVariants as w
@@ -12,13 +12,13 @@ use Rattle.host_expr.specs.declared.expr.Rel.TheVariants as rel
 use Rattle.grammar.specs.Tokens.{is, is_plain, never}
 use Rattle.grammar.specs.Fault.{OutOfRange}
 use Rattle.grammar.specs.Language as l
-use Rattle.grammar.specs.Parser.{Unread, kind, if_next, sees, too_deep, opened}
+use Rattle.grammar.specs.Parser.{Unread, ◌>>=◌, pure, kind, if_next, sees, too_deep}
 use Rattle.grammar.proofs.Bundle.{Sample}
 use Rattle.grammar.proofs.Sequences.{good_seq, good_then, good_pure, fit, or_then, sample_seq, sample_none, sample_pure, sample_token, sample_left, sample_right, sample_outer}
 use Rattle.grammar.proofs.OneToken.{single_ranged, single_name, good_counted_token, good_take, good_open, good_close, good_counted}
 use Rattle.grammar.proofs.Choices.{good_or, good_by, repeats}
 use Rattle.grammar.proofs.Combined.{fit_any, good_made, good_several}
-use Rattle.grammar.proofs.Nesting.{deeper, good_nothing, good_closed}
+use Rattle.grammar.proofs.Nesting.{deeper, good_nothing, good_closed, taken_first}
 use Rattle.grammar.proofs.Outermost.{good_outer}
 use Rattle.grammar.proofs.Places.{placed_sample, good_placed}
 use Rattle.expression_reader.specs.declared.terminal.Terminal.{Terminal}
@@ -194,12 +194,18 @@ sample_expr il =
     let comparison : Sample (g.comparison il) = sample_seq (g.sum il) sum (λ a. sample_seq _ (sample_optional (g.term g.relation (g.sum il))) (λ b. sample_pure (compared a b))) in
     sample_seq (g.either il) (sample_chain grouping.Either (g.both il) (sample_chain grouping.Both (g.comparison il) comparison)) (λ a. sample_seq _ (sample_optional (g.branches il)) (λ b. sample_pure (chosen a b)))
 
+-- an expression, and the bracket that closes
+abbrev closed_behind : Parser (Expr Name) → Parser (Expr Name)
+closed_behind part = ◌>>=◌ part (λ a. ◌>>=◌ (p.punct k.RightParen) (λ w. pure a))
+
 pub good_inside : (n x : ℕ) → Inside x n (p.inside n) (g.inside (deeper n x))
-unfolding p.inside p.in_round opened
+unfolding p.inside p.in_round
 good_inside zero zero = good_nothing (p.inside 0) (λ i. (too_deep symbols (t.Punct k.LeftParen) i, refl))
 good_inside zero (suc x) = good_closed {al = symbols} (t.Punct k.LeftParen) (λ place. l.◌>>=◌ (g.expression (g.inside x)) (λ y. l.◌>>=◌ (g.punct k.RightParen) (λ w. l.pure y))) refl (let lt : 0 < suc x = omega arith in lt)
     (λ place. sample_seq (g.expression (g.inside x)) (sample_expr (g.inside x)) (λ y. sample_seq (g.punct k.RightParen) (sample_token (t.Punct k.RightParen)) (λ w. sample_pure y)))
-good_inside (suc n) x = good_then (good_open (t.Punct k.LeftParen) refl) (λ place. good_then (good_expression (good_inside n x)) (λ y. good_then (good_close (t.Punct k.RightParen) refl) (λ w. good_pure y never) refl) refl) refl
+good_inside (suc n) x =
+    subst (λ q. Inside x (suc n) q (g.inside (deeper (suc n) x))) (sym (taken_first symbols (t.Punct k.LeftParen) n (λ left place. closed_behind (p.expression (p.inside n)))))
+    (good_then (good_open (t.Punct k.LeftParen) refl) (λ place. good_then (good_expression (good_inside n x)) (λ y. good_then (good_close (t.Punct k.RightParen) refl) (λ w. good_pure y never) refl) refl) refl)
 
 pub good_outermost : (n x : ℕ) → Out x n (p.outermost n) (g.outermost (deeper n x)) false begins_expression behind_expression
 unfolding p.outermost

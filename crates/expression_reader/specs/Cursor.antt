@@ -1,9 +1,11 @@
 -- What the tokens that are left show: their kinds, texts and values. This project's own.
-use Rattle.std.specs.Prelude.{◌≡◌, ℕ, true, List, map, slice_range, All}
+use Rattle.std.specs.Prelude.{◌≡◌, ℕ, true, List, map, slice_range, All, Option, Some, Result, Ok, Err}
 use Rattle.hh_base.specs.Name.{IsName}
 use Rattle.module_token.specs.Place.{InText}
 use Rattle.module_token.specs.Value.{quoted_value}
 use Rattle.grammar.specs.Tokens.{Tok}
+use Rattle.grammar.specs.Fault.{Refusal}
+use Rattle.grammar.specs.Parser.{Unread, Parsed, Refuses, next}
 use Rattle.module_token.specs.declared.token.Token.{Token}
 use Rattle.module_token.specs.declared.token.TokenKind.{TokenKind}
 use Rattle.module_token.specs.declared.token.TokenKind.TheVariants as kind
@@ -38,3 +40,8 @@ pub record IsReadable (text : List ℕ) (t : Token) : Type 0 where
 
 abbrev pub AllReadable : Inside → Type 0
 AllReadable s = All (IsReadable s.text.now) s.rest.now
+
+-- What the next token is read as, which is still to be taken, or why it is refused. `seen` tells what refusal an error is, None for want of memory.
+abbrev pub Shows : {A E : Type 0} → (E → Option Refusal) → Parsed Terminal A → Result A E → Unread Terminal → Type 0
+Shows seen outcome (Ok a) i = outcome ≡ Ok (a, next i)
+Shows seen outcome (Err e) i = (r : Refusal) → seen e ≡ Some r → Refuses outcome r i

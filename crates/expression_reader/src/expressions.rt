@@ -321,15 +321,12 @@ impl<'a> Reader<'a> {
 
     /// An expression in round brackets.
     #[cycle(expression)]
-    #[tactic(auto, unfolding(crate::specs::Reference::inside, crate::specs::Reference::in_round, grammar::specs::Parser::opened))]
+    #[tactic(auto, using(crate::proofs::Closings::inside_opened), unfolding(crate::specs::Reference::in_round, grammar::specs::Parser::opened))]
     fn inside(&mut self, room: u8) -> Result<Expr<Name>, StepError>
         ensures { Reads as_refusal (rule.inside room self.old) result self.new }
     {
-        if room == 0 {
-            return Err(self.too_deep(Punct::LeftParen));
-        }
-        self.punct(Punct::LeftParen)?;
-        let expr = self.expression(room - 1)?;
+        let (_, left) = self.open(Punct::LeftParen, room)?;
+        let expr = self.expression(left)?;
         self.punct(Punct::RightParen)?;
         Ok(expr)
     }
@@ -350,11 +347,8 @@ impl<'a> Reader<'a> {
     pub fn test(&mut self, room: u8) -> Result<ExprAt<Name>, StepError>
         ensures { Reads as_refusal (rule.test room self.old) result self.new }
     {
-        if room == 0 {
-            return Err(self.too_deep(Punct::LeftParen));
-        }
-        self.punct(Punct::LeftParen)?;
-        let expr = self.outermost(room - 1)?;
+        let (_, left) = self.open(Punct::LeftParen, room)?;
+        let expr = self.outermost(left)?;
         self.punct(Punct::RightParen)?;
         Ok(expr)
     }
@@ -398,11 +392,8 @@ impl<'a> Reader<'a> {
     pub fn arguments(&mut self, room: u8) -> Result<Items<ExprAt<Name>>, StepError>
         ensures { Reads as_refusal (rule.in_round rule.arguments room self.old) result self.new }
     {
-        if room == 0 {
-            return Err(self.too_deep(Punct::LeftParen));
-        }
-        self.punct(Punct::LeftParen)?;
-        let list = self.exprs_or_none(room - 1)?;
+        let (_, left) = self.open(Punct::LeftParen, room)?;
+        let list = self.exprs_or_none(left)?;
         self.punct(Punct::RightParen)?;
         Ok(list)
     }

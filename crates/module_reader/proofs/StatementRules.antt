@@ -1,5 +1,5 @@
 -- Each rule of statements is read as its language, by how blocks are.
-use Rattle.std.proofs.Common.{◌≡◌, ◌<◌, ℕ, zero, suc, Bool, true, false, [], ◌∷◌, Option, Some, refl, arith}
+use Rattle.std.proofs.Common.{◌≡◌, ◌<◌, ℕ, zero, suc, Bool, true, false, [], ◌∷◌, Option, Some, refl, sym, subst, arith}
 use Rattle.std.specs.Prelude.{◌||◌}
 use Rattle.hh_base.specs.declared.keyword.Keyword.{Keyword}
 use Rattle.hh_base.specs.declared.keyword.Keyword.TheVariants as w
@@ -10,14 +10,14 @@ use Rattle.module_tree.specs.declared.source.Statement.{Statement}
 use Rattle.module_tree.specs.declared.source.Statement.TheVariants as s
 use Rattle.grammar.specs.Tokens.{never}
 use Rattle.grammar.specs.Language as l
-use Rattle.grammar.specs.Parser.{Unread, kind, if_next, sees, too_deep, opened}
+use Rattle.grammar.specs.Parser.{Unread, ◌>>=◌, pure, many, kind, if_next, sees, too_deep}
 use Rattle.grammar.proofs.Bundle.{Level, Sample}
 use Rattle.grammar.proofs.Levels.{outer_level}
 use Rattle.grammar.proofs.Sequences.{good_seq, good_then, good_pure, sample_seq, sample_none, sample_pure, sample_token, sample_right}
 use Rattle.grammar.proofs.OneToken.{good_open, good_close}
 use Rattle.grammar.proofs.Choices.{good_or, good_list, good_by, splits}
 use Rattle.grammar.proofs.Combined.{good_made, good_several}
-use Rattle.grammar.proofs.Nesting.{deeper, good_nothing, good_closed}
+use Rattle.grammar.proofs.Nesting.{deeper, good_nothing, good_closed, taken_first}
 use Rattle.expression_reader.specs.declared.terminal.Terminal.{Terminal}
 use Rattle.expression_reader.specs.declared.terminal.Terminal.TheVariants as t
 use Rattle.expression_reader.specs.Terminals.{symbols, is_name, is_keyword, is_punct, is_in_curly}
@@ -250,10 +250,16 @@ good_statement n x {bp} {bl} h = good_by (by_word bp n) (p.statement bp n) (g.st
 
 -- ---- blocks
 
+-- statements, and the bracket that closes
+abbrev closed_behind : Parser (StatementNode Name) → ℕ → Parser (BlockNode Name)
+closed_behind inner place = ◌>>=◌ (many is_in_curly inner) (λ xs. ◌>>=◌ (ep.punct k.RightBrace) (λ w. pure (block_at place xs)))
+
 pub good_block : (n x : ℕ) → Blocks x n (p.block n) (g.block (deeper n x))
-unfolding p.block opened
+unfolding p.block p.block_with
 good_block zero zero = good_nothing (p.block 0) (λ i. (too_deep symbols (t.Punct k.LeftBrace) i, refl))
 good_block zero (suc x) = good_closed {al = symbols} (t.Punct k.LeftBrace) (λ place. l.◌>>=◌ (l.many (g.statement (g.block x) x)) (λ xs. l.◌>>=◌ (eg.punct k.RightBrace) (λ w. l.pure (block_at place xs)))) refl (let lt : 0 < suc x = omega arith in lt)
     (λ place. sample_seq (l.many (g.statement (g.block x) x)) (sample_none (g.statement (g.block x) x)) (λ xs. sample_seq (eg.punct k.RightBrace) (sample_token (t.Punct k.RightBrace)) (λ w. sample_pure (block_at place xs))))
-good_block (suc n) x = good_then (good_open (t.Punct k.LeftBrace) refl) (λ place. good_seq (good_list is_in_curly is_in_curly (good_statement n x (good_block n x)) refl)
-    (λ xs. good_then (good_close (t.Punct k.RightBrace) refl) (λ w. good_pure (block_at place xs) never) refl) refl) refl
+good_block (suc n) x =
+    subst (λ q. Blocks x (suc n) q (g.block (deeper (suc n) x))) (sym (taken_first symbols (t.Punct k.LeftBrace) n (λ left place. closed_behind (p.statement (p.block n) n) place)))
+    (good_then (good_open (t.Punct k.LeftBrace) refl) (λ place. good_seq (good_list is_in_curly is_in_curly (good_statement n x (good_block n x)) refl)
+    (λ xs. good_then (good_close (t.Punct k.RightBrace) refl) (λ w. good_pure (block_at place xs) never) refl) refl) refl)

@@ -400,9 +400,14 @@ statement_by block room _ = nested_block block
 unfoldable pub statement : Parser (BlockNode Name) → ℕ → Parser (StatementNode Name)
 statement block room = λ i. statement_by block room (parser.kind i) i
 
+-- a block, by its statements
+unfoldable pub block_with : (ℕ → Parser (StatementNode Name)) → ℕ → Parser (BlockNode Name)
+block_with inner room =
+    parser.opened symbols room (t.Punct p.LeftBrace) (λ left place. do xs ← many is_in_curly (inner left); punct p.RightBrace; pure (block_at place xs))
+
 unfoldable pub block : ℕ → Parser (BlockNode Name)
 block zero = closed symbols (t.Punct p.LeftBrace)
-block (suc room) = parser.opened symbols (suc room) (t.Punct p.LeftBrace) (λ left place. do xs ← many is_in_curly (statement (block room) room); punct p.RightBrace; pure (block_at place xs))
+block (suc room) = block_with (λ left. statement (block room) room) (suc room)
 
 -- ---- texts
 

@@ -27,11 +27,8 @@ const MOST_OPEN: u8 = 128;
 fn read_in_curly(reader: &mut Reader<'_>, room: u8) -> Result<ExprAt<Name>, StepError>
     ensures { Reads as_refusal (part.in_curly part.outermost room reader.old) result reader.new }
 {
-    if room == 0 {
-        return Err(reader.too_deep(Punct::LeftBrace));
-    }
-    reader.punct(Punct::LeftBrace)?;
-    let expr = reader.outermost(room - 1)?;
+    let (_, left) = reader.open(Punct::LeftBrace, room)?;
+    let expr = reader.outermost(left)?;
     reader.punct(Punct::RightBrace)?;
     Ok(expr)
 }

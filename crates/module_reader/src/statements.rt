@@ -355,15 +355,12 @@ fn read_statements(reader: &mut Reader<'_>, room: u8) -> Result<Items<StatementN
 
 /// A block, where so many brackets may still be opened.
 #[cycle(statement)]
-#[tactic(auto, unfolding(crate::specs::Reference::block, grammar::specs::Parser::opened))]
+#[tactic(auto, using(crate::proofs::Closings::block_opened), unfolding(crate::specs::Reference::block_with, grammar::specs::Parser::opened))]
 pub(crate) fn read_block(reader: &mut Reader<'_>, room: u8) -> Result<BlockNode<Name>, StepError>
     ensures { Reads as_refusal (rule.block room reader.old) result reader.new }
 {
-    if room == 0 {
-        return Err(reader.too_deep(Punct::LeftBrace));
-    }
-    let pos = reader.punct(Punct::LeftBrace)?;
-    let statements = read_statements(reader, room - 1)?;
+    let (pos, left) = reader.open(Punct::LeftBrace, room)?;
+    let statements = read_statements(reader, left)?;
     reader.punct(Punct::RightBrace)?;
     Ok(BlockNode {
         pos: Pos(pos),

@@ -12,7 +12,7 @@ returns-in_err-item g c =
     let item = g.T.Listed.rule in
     let whole = part.listed item c.args.reader.now in
     reads_exit as_refusal whole _ _ c.in_err-item.field-0.0 c.from_residual-in_err-item.ensures.1
-    (list_fails (is_punct p.Comma) (part.behind_comma item) as_refusal whole c.each.list c.each.reader c.in_err-item.field-0.0 (sym c.sees_punct.ensures ∙ c.each-test.true) c.in_err-item.ensures c.each.invariant)
+    (list_fails (is_punct p.Comma) (part.behind_comma item) as_refusal whole c.each.list c.each.reader _ c.in_err-item.field-0.0 (sym c.sees_punct.ensures ∙ c.each-test.true) c.in_err-item.ensures c.each.invariant)
 
 pub each-smaller : goal.each-smaller
 each-smaller g c = c.read.ensures.takes c.each.reader (c.in_ok-item.item, c.read_next.new.reader) c.in_ok-item.ensures

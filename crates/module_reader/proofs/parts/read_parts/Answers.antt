@@ -10,7 +10,7 @@ pub returns-in_err-top : goal.returns-in_err-top
 returns-in_err-top c =
     let whole = rule.parts 128 c.args.reader.now in
     reads_exit as_refusal whole _ _ c.in_err-top.field-0.0 c.from_residual.ensures.1
-    (list_fails rule.begins_part (rule.part 128) as_refusal whole c.each.list c.each.reader c.in_err-top.field-0.0 (sym c.sees_part.ensures ∙ c.each-test.true) c.in_err-top.ensures c.each.invariant)
+    (list_fails rule.begins_part (rule.part 128) as_refusal whole c.each.list c.each.reader _ c.in_err-top.field-0.0 (sym c.sees_part.ensures ∙ c.each-test.true) c.in_err-top.ensures c.each.invariant)
 
 pub each-smaller : goal.each-smaller
 each-smaller c = top_takes 127 c.each.reader (c.in_ok-top.top, c.read_part.new.reader) c.in_ok-top.ensures

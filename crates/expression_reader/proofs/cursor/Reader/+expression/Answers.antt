@@ -4,7 +4,6 @@ use Rattle.grammar.proofs.Steps.{reads_exit}
 use Rattle.expression_reader.specs.Refusals.{as_refusal}
 use Rattle.expression_reader.specs.Reference as rule
 use Rattle.expression_reader.specs.Trees.{applied}
-use Rattle.expression_reader.proofs.Closings.{inside_open}
 use Rattle.expression_reader.proofs.Items.{term_takes}
 use Rattle.expression_reader.proofs.cursor.Reader.+expression.Goals as goal
 
@@ -13,7 +12,7 @@ chain-returns-in_err-operator t c =
     let item = rule.term (rule.operator c.args.grouping) (rule.between c.args.grouping (rule.inside c.args.room)) in
     let whole = rule.chain c.args.grouping (rule.between c.args.grouping (rule.inside c.args.room)) c.args.self.now in
     reads_exit as_refusal whole _ _ c.in_err-operator.field-0.0 c.from_residual-in_err-operator.ensures.1
-    (fold_fails (rule.operates c.args.grouping) item applied as_refusal whole c.terms.left c.terms.self c.in_err-operator.field-0.0 (sym c.sees_operator.ensures ∙ c.terms-test.true) c.in_err-operator.ensures c.terms.invariant)
+    (fold_fails (rule.operates c.args.grouping) item applied as_refusal whole c.terms.left c.terms.self _ c.in_err-operator.field-0.0 (sym c.sees_operator.ensures ∙ c.terms-test.true) c.in_err-operator.ensures c.terms.invariant)
 
 pub chain-terms-smaller : goal.chain-terms-smaller
 chain-terms-smaller t c = term_takes c.args.grouping c.args.room c.terms.self ((c.in_ok-operator.operator, c.in_ok-operator.right), c.term.new.self) c.in_ok-operator.ensures
@@ -31,8 +30,3 @@ chain-returns t c =
     let item = rule.term (rule.operator c.args.grouping) (rule.between c.args.grouping (rule.inside c.args.room)) in
     let whole = rule.chain c.args.grouping (rule.between c.args.grouping (rule.inside c.args.room)) c.args.self.now in
     fold_done (rule.operates c.args.grouping) item applied whole c.terms.left c.terms.self (sym c.sees_operator.ensures ∙ c.terms-test.false) c.terms.invariant
-
-pub inside-returns-in_err-punct-2 : goal.inside-returns-in_err-punct-2
-inside-returns-in_err-punct-2 t c =
-    reads_exit as_refusal (rule.inside c.args.room c.args.self.now) _ _ c.in_err-punct-2.field-0.0 c.from_residual-in_err-punct-2.ensures.1
-    (inside_open c.args.room c.args.self.now c.punct.new.self c.expression.new.self c.in_ok-punct.field-0 c.in_ok-expr.expr c.in_err-punct-2.field-0.0 c.if-room-eq0.false c.in_ok-punct.ensures c.in_ok-expr.ensures c.in_err-punct-2.ensures)
