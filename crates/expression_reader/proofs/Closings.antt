@@ -15,12 +15,15 @@ closed_behind part = do
   pure a
 
 by_bracket : (room : ℕ) (o : Parsed Terminal ℕ)
-    → and_then (and_then {A = ℕ} {B = ℕ × ℕ} o (λ place. pure (place, room))) (λ bracket. closed_behind (expression (inside room)))
-    ≡ and_then (and_then {A = ℕ} {B = ℕ × ℕ} o (λ place. pure (place, room))) (λ bracket. closed_behind (expression (inside bracket.1)))
+    → and_then (and_then {A = ℕ} {B = ℕ × ℕ} o (λ place. pure (place, room)))
+    (λ bracket. closed_behind (expression (inside room)))
+    ≡ and_then (and_then {A = ℕ} {B = ℕ × ℕ} o (λ place. pure (place, room)))
+    (λ bracket. closed_behind (expression (inside bracket.1)))
 by_bracket room (Ok q) = refl
 by_bracket room (Err e) = refl
 
-pub inside_opened : (room : ℕ) (i : Unread Terminal) → inside room i ≡ in_round (λ left. expression (inside left)) room i
+pub inside_opened : (room : ℕ) (i : Unread Terminal) → inside room i
+    ≡ in_round (λ left. expression (inside left)) room i
 unfolding inside in_round opened opening closed_behind
 inside_opened zero i = refl
 inside_opened (suc room) i = by_bracket room (punct k.LeftParen i)

@@ -14,22 +14,20 @@ use crate::fault::StepError;
 use crate::terminal::Terminal;
 use crate::tokens_left::TokensLeft;
 use grammar::cursor::Cursor;
+use hh_base::keyword::Keyword;
 use hh_base::name::Name;
 use hh_base::text::Text;
 use hh_base::value::Pos;
-use module_tree::source::NameAt;
-use hh_base::keyword::Keyword;
 use module_token::punct::Punct;
 use module_token::token::Token;
+use module_tree::limits::COUNT_LIMIT;
+use module_tree::source::NameAt;
 use sqlite_items::Items;
 use std::alloc::Global;
 use std::marker::Model;
 
-/// The largest number that an expression has.
-const LARGEST: u64 = i64::MAX as u64;
-
-/// The most times that a delay waits.
-const MOST_TIMES: u64 = 64;
+/// The largest integer: the largest number that an expression has.
+pub const LARGEST: u64 = i64::MAX as u64;
 
 /// A reader of the tokens of a text.
 #[derive(Drop)]
@@ -160,10 +158,12 @@ impl<'a> Reader<'a> {
         self.take(Terminal::Punct(punct))
     }
 
-    /// Takes this bracket, where so many may still be opened. Gives its place, and how many may be opened behind it.
+    /// Takes this bracket, where so many may still be opened. Gives its place, and how many may be opened behind
+    /// it.
     #[tactic(auto, unfolding(grammar::specs::Parser::opening, grammar::specs::Parser::too_deep))]
     pub fn open(&mut self, bracket: Punct, room: u8) -> Result<(u32, u8), StepError>
-        ensures reads { Reads as_refusal (parser.opening symbols room (Terminal.Punct bracket) self.old) result self.new }
+        ensures reads { Reads as_refusal
+            (parser.opening symbols room (Terminal.Punct bracket) self.old) result self.new }
         ensures kept { OnErr result (self.new ≡ self.old) }
         ensures less { IfOk result (λ opened. opened.1 < room) }
     {
@@ -228,11 +228,17 @@ impl<'a> Reader<'a> {
         Ok((self.place(), text))
     }
 
-    /// A number that is the next token, between these two, and its place. It is still to be taken. Any other number
-    /// is refused by `otherwise`, a fault at the next token.
+    /// A number that is the next token, between these two, and its place. It is still to be taken. Any other
+    /// number is refused by `otherwise`, a fault at the next token.
     #[tactic(auto, unfolding(grammar::specs::Parser::ranged, grammar::specs::Parser::fail, grammar::specs::Parser::refusal))]
-    fn next_number(&self, least: u64, most: u64, otherwise: StepError) -> Result<(u32, u64), StepError>
-        ensures reads { (fault : Fault) → as_refusal otherwise ≡ Some (record { place = parser.place self.now; fault = fault })
+    fn next_number(
+        &self,
+        least: u64,
+        most: u64,
+        otherwise: StepError,
+    ) -> Result<(u32, u64), StepError>
+        ensures reads { (fault : Fault)
+            → as_refusal otherwise ≡ Some (record { place = parser.place self.now; fault = fault })
             → Shows as_refusal (rule.number least most fault self.now) result self.now }
         ensures within { IfOk result (λ n. in_range least most n.1 ≡ true) }
     {
@@ -292,11 +298,11 @@ impl<'a> Reader<'a> {
 
     /// Takes how often something is waited for, and gives its place too.
     pub fn times(&mut self) -> Result<(u32, u8), StepError>
-        ensures reads { Reads as_refusal (rule.number 1 64 (OutOfRange 1 64) self.old) result self.new }
+        ensures reads { Reads as_refusal (rule.how_often self.old) result self.new }
         ensures kept { OnErr result (self.new ≡ self.old) }
     {
         let out_of_range = StepError::BadCount(self.place());
-        let (pos, times) = self.next_number(1, MOST_TIMES, out_of_range)?;
+        let (pos, times) = self.next_number(1, COUNT_LIMIT, out_of_range)?;
         self.cursor.skip();
         Ok((pos, times as u8))
     }
@@ -343,7 +349,7 @@ impl<'a> Reader<'a> {
     /// Takes a number that is a leaf, and gives its place too.
     #[tactic(auto, unfolding(grammar::specs::Parser::counted, grammar::specs::Parser::skipped, grammar::specs::Parser::fail))]
     pub(crate) fn counted_number(&mut self) -> Result<(u32, u64), StepError>
-        ensures reads { Reads as_refusal (parser.counted symbols (rule.number 0 largest (OutOfRange 0 largest)) self.old) result self.new }
+        ensures reads { Reads as_refusal (parser.counted symbols rule.leaf_number self.old) result self.new }
         ensures kept { OnErr result (self.new ≡ self.old) }
         ensures small { IfOk result (λ n. n.1 ≤ largest) }
     {

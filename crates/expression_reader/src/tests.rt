@@ -3,9 +3,9 @@
 use crate::cursor::Reader;
 use crate::fault::StepError;
 use crate::terminal::Terminal;
+use hh_base::keyword::Keyword;
 use hh_base::value::Pos;
 use host_expr::expr::{ExprNode, Op};
-use hh_base::keyword::Keyword;
 use module_token::punct::Punct;
 use module_token::token::Token;
 use module_token::tokens::tokens;
@@ -116,7 +116,11 @@ const TEXTS: [(&str, Part, Result<u32, StepError>); 27] = [
     ("(1, ", Part::Arguments, Err(StepError::EndOfText(4))),
     ("(((1)))", Part::Outermost, Err(StepError::DeepNesting(2))),
     ("(((1)))", Part::Tested, Err(StepError::DeepNesting(2))),
-    ("-9223372036854775808", Part::Outermost, Err(StepError::NumberLarge(1))),
+    (
+        "-9223372036854775808",
+        Part::Outermost,
+        Err(StepError::NumberLarge(1)),
+    ),
     ("65,", Part::Times, Err(StepError::BadCount(0))),
     ("0,", Part::Times, Err(StepError::BadCount(0))),
 ];

@@ -23,8 +23,8 @@ Firsts R (x ∷ xs) [] = ⊥
 Firsts R (x ∷ xs) (y ∷ ys) = R x y
 
 -- What the count of leaves and operators is to the marks of a text: the limit is not passed in them and they
--- take the one count to the other; it is
--- passed in them; at this count a token of this mark is the first past it.
+-- take the one count to the other; it is passed in them; at this count a token of this mark is the first past
+-- it.
 pub record Level : Type 1 where
   pub after : ℕ → List ℕ → ℕ → Type 0
   pub over : ℕ → List ℕ → Type 0
@@ -88,8 +88,7 @@ Nested {K} al n used = (b : List (Tok K)) (t : Tok K) (c : List (Tok K)) → use
 -- ---- one run of a reader
 
 -- What was read is a text of the language, and depends on no more than its tokens and the kind of the next
--- one. n: how many brackets may be opened before;
--- m: how many behind.
+-- one. n: how many brackets may be opened before; m: how many behind.
 pub record Took {K A : Type 0} (al : Alphabet K) (v : Level) (n m : ℕ) (p : Parser K A) (s : Lang K A)
     (i : Unread K) (a : A) (j : Unread K) : Type 0 where
   pub used : List (Tok K)

@@ -1,16 +1,11 @@
--- The text that is printed of a tree: a line for each of its declarations, with one space between neighbouring
--- tokens. This project's own.
+-- The text that is printed of a tree: a line for each of its declarations, with one space between
+-- neighbouring tokens. This project's own.
 use Rattle.std.specs.Prelude.{◌≡◌, ℕ, List, [], ◌∷◌, ◌++◌, Result, OnOk}
 use Rattle.std.specs.List.{flat_map}
+use Rattle.hh_base.specs.Bytes.{line_feed, space}
 use Rattle.module_tree.specs.declared.source.Part.{Part}
 use Rattle.module_printer.specs.ExpressionTokens.{Lexemes}
 use Rattle.module_printer.specs.SourceTokens.{tokens_of_part}
-
-abbrev pub space : ℕ
-space = 32
-
-abbrev pub line_feed : ℕ
-line_feed = 10
 
 -- each token behind a space
 abbrev pub spaced : Lexemes → List ℕ

@@ -12,7 +12,7 @@ mod statements;
 #[cfg(test)]
 mod tests;
 
-use crate::print::printer::{Printer, Printable};
+use crate::print::printer::{Printable, Printer};
 use hh_base::memory::NoMemory;
 use hh_base::name::Name;
 use module_tree::source::{BodyNode, ExprAt, HostNode, ModuleNode, Modules, Part};
@@ -20,7 +20,12 @@ use std::alloc::Global;
 
 impl Printer {
     /// Begins a line with the word of a declaration, its name and its list.
-    fn heading<T: Printable>(&mut self, word: &str, name: &Name, items: &[T]) -> Result<(), NoMemory>
+    fn heading<T: Printable>(
+        &mut self,
+        word: &str,
+        name: &Name,
+        items: &[T],
+    ) -> Result<(), NoMemory>
         ensures { Appends result self.old self.new
             (word.now ++ spaced (name.now ∷ in_parentheses (comma_separated (map T.tokens items.now)))) }
     {

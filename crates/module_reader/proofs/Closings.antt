@@ -19,13 +19,15 @@ closed_behind inner place = do
   pure (block_at place xs)
 
 by_bracket : (room : ℕ) (o : Parsed Terminal ℕ)
-    → and_then (and_then {A = ℕ} {B = ℕ × ℕ} o (λ place. pure (place, room))) (λ bracket. closed_behind (statement (block room) room) bracket.0)
+    → and_then (and_then {A = ℕ} {B = ℕ × ℕ} o (λ place. pure (place, room)))
+    (λ bracket. closed_behind (statement (block room) room) bracket.0)
     ≡ and_then (and_then {A = ℕ} {B = ℕ × ℕ} o (λ place. pure (place, room)))
-        (λ bracket. closed_behind (statement (block bracket.1) bracket.1) bracket.0)
+    (λ bracket. closed_behind (statement (block bracket.1) bracket.1) bracket.0)
 by_bracket room (Ok q) = refl
 by_bracket room (Err e) = refl
 
-pub block_opened : (room : ℕ) (i : Unread Terminal) → block room i ≡ block_with (λ left. statement (block left) left) room i
+pub block_opened : (room : ℕ) (i : Unread Terminal) → block room i
+    ≡ block_with (λ left. statement (block left) left) room i
 unfolding block block_with opened opening closed_behind
 block_opened zero i = refl
 block_opened (suc room) i = by_bracket room (punct k.LeftBrace i)

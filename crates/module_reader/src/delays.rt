@@ -8,11 +8,11 @@ ghost use Rattle.module_reader.specs.Reference as rule;
 use crate::lists::read_list_or_none;
 use expression_reader::cursor::Reader;
 use expression_reader::fault::StepError;
+use hh_base::keyword::Keyword;
 use hh_base::name::Name;
 use hh_base::text::Text;
-use module_tree::source::{Binding, Delay, ExprAt, NameAt, Later};
-use hh_base::keyword::Keyword;
 use module_token::punct::Punct;
+use module_tree::source::{Binding, Delay, ExprAt, Later, NameAt};
 use sqlite_items::Items;
 
 // ---- delays
@@ -174,7 +174,10 @@ pub(crate) fn read_async_signal(
 
 /// The text of a handler, where there is one.
 #[tactic(auto, unfolding(crate::specs::Reference::handled))]
-pub(crate) fn read_handler(reader: &mut Reader<'_>, word: Keyword) -> Result<Option<Text>, StepError>
+pub(crate) fn read_handler(
+    reader: &mut Reader<'_>,
+    word: Keyword,
+) -> Result<Option<Text>, StepError>
     ensures { Reads as_refusal (rule.handled word reader.old) result reader.new }
 {
     if !reader.sees_keyword(word) {

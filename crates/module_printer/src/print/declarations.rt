@@ -6,11 +6,10 @@ ghost use Rattle.module_printer.specs.ExpressionTokens.{tokens_of_value};
 ghost use Rattle.module_printer.specs.Printed.{Writes};
 
 use crate::print::expressions::truth_token;
-use crate::print::printer::{Printer, Printable};
+use crate::print::printer::{Printable, Printer};
 use hh_base::memory::NoMemory;
 use hh_base::name::Name;
-use hh_base::value::{CombineWord, Kind, Value};
-use hh_base::value::Dir;
+use hh_base::value::{CombineWord, Dir, Kind, Value};
 use module_tree::source::{Binding, InterfaceNode, ParameterNode, SignalNode};
 
 fn kind_token(kind: Kind) -> &'static str

@@ -6,12 +6,12 @@ ghost use Rattle.module_printer.specs.ExpressionTokens.{in_parentheses, token_of
 ghost use Rattle.module_printer.specs.SourceTokens.{tokens_of_outermost};
 ghost use Rattle.module_printer.specs.Printed.{Writes};
 
-use crate::print::printer::{Printer, Printable};
+use crate::print::printer::{Printable, Printer};
 use hh_base::memory::NoMemory;
 use hh_base::name::Name;
+use host_expr::expr::{Expr, ExprNode, Op, Rel};
 use module_tree::level::Level;
 use module_tree::source::ExprAt;
-use host_expr::expr::{Expr, ExprNode, Op, Rel};
 
 fn op_token(op: Op) -> &'static str
     ensures { result.now ≡ token_of_op op }

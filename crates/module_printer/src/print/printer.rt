@@ -2,10 +2,11 @@
 
 ghost use Rattle.std.specs.Prelude.{◌≡◌, ◌∷◌, [], ℕ, List, codes, map};
 ghost use Rattle.std.specs.Fmt.{decimal};
+ghost use Rattle.hh_base.specs.Bytes.{line_feed};
 ghost use Rattle.hh_base.specs.Literal.{quoted};
 ghost use Rattle.module_printer.specs.ExpressionTokens.{in_parentheses, tokens_of_integer};
 ghost use Rattle.module_printer.specs.SourceTokens.{behind, comma_separated, tokens_of_handler};
-ghost use Rattle.module_printer.specs.Printed.{line_feed, Appends, Writes};
+ghost use Rattle.module_printer.specs.Printed.{Appends, Writes};
 
 use hh_base::literal::quote;
 use hh_base::memory::NoMemory;

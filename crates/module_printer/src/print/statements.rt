@@ -8,7 +8,8 @@ use crate::print::printer::Printer;
 use hh_base::memory::NoMemory;
 use hh_base::name::Name;
 use module_tree::source::{
-    AsyncNode, Binding, BlockNode, Delay, ExprAt, NameAt, Later, SignalNode, Statement, StatementNode,
+    AsyncNode, Binding, BlockNode, Delay, ExprAt, Later, NameAt, SignalNode, Statement,
+    StatementNode,
 };
 
 impl Printer {
@@ -211,7 +212,7 @@ impl Printer {
     fn do_every(&mut self, block: &BlockNode<Name>, later: &Later<Name>) -> Result<(), NoMemory>
         ensures { Writes result self.old self.new
             ((codes "do" ∷ tokens_of_block block.now) ++ (codes "every" ∷ tokens_of_later later.now)
-                ++ codes ";" ∷ []) }
+            ++ codes ";" ∷ []) }
     {
         self.token("do")?;
         self.block(block)?;
@@ -229,7 +230,7 @@ impl Printer {
     ) -> Result<(), NoMemory>
         ensures { Writes result self.old self.new
             (codes "suspend" ∷ (immediate_word immediate ++ tokens_of_test test.now
-                ++ tokens_of_block block.now)) }
+            ++ tokens_of_block block.now)) }
     {
         self.token("suspend")?;
         self.immediate(immediate)?;
@@ -240,7 +241,8 @@ impl Printer {
     #[cycle(statement)]
     fn local(&mut self, signals: &[SignalNode], block: &BlockNode<Name>) -> Result<(), NoMemory>
         ensures { Writes result self.old self.new
-            (codes "signal" ∷ (comma_separated (map tokens_of_signal signals.now) ++ tokens_of_block block.now)) }
+            (codes "signal" ∷ (comma_separated (map tokens_of_signal signals.now)
+            ++ tokens_of_block block.now)) }
     {
         self.token("signal")?;
         self.list(signals)?;

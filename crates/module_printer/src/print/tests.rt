@@ -10,7 +10,8 @@ use super::print;
 use hh_base::name::Name;
 use hh_base::value::{Dir, Kind, Pos};
 use module_tree::source::{
-    BlockNode, InterfaceNode, ModuleNode, Modules, NameAt, SignalNode, Statement, StatementNode, Part,
+    BlockNode, InterfaceNode, ModuleNode, Modules, NameAt, Part, SignalNode, Statement,
+    StatementNode,
 };
 use sqlite_items::Items;
 use std::alloc::Global;
