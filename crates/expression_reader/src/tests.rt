@@ -76,7 +76,8 @@ fn read_part(reader: &mut Reader<'_>, part: Part) -> Result<u32, StepError> {
     }
 }
 
-/// What reading the part gives: a place, a number that was read, or 1 for yes. None where the text has no tokens.
+/// What reading the part gives: a place, a number that was read, or 1 for yes. None where the text has no
+/// tokens.
 fn read_of(alloc: Global, text: &str, part: Part) -> Option<Result<u32, StepError>> {
     if text.len() >= 1 << 32 {
         return None;

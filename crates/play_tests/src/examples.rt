@@ -201,15 +201,15 @@ module Clock ( in start , in tick , out left : int ) { every ( start . now ) { a
 ) kill \"started anew\" ; every ( tick . now ) { emit left ( left . preval - 1 ) ; } } }
 ";
 
-const PROGRAMS: [(&str, &str); 3] = [(LOGIN, LOGIN_PRINTED), (ABRO, ABRO_PRINTED), (CLOCK, CLOCK_PRINTED)];
+const PROGRAMS: [(&str, &str); 3] = [
+    (LOGIN, LOGIN_PRINTED),
+    (ABRO, ABRO_PRINTED),
+    (CLOCK, CLOCK_PRINTED),
+];
 
 const FAULTS: [(&str, &str, u32); 10] = [
     ("module M() { $ }", "BadChar", 13),
-    (
-        "module M() { 9223372036854775809",
-        "NumberLarge",
-        13,
-    ),
+    ("module M() { 9223372036854775809", "NumberLarge", 13),
     ("module M() { \"ab", "TextOpen", 13),
     ("module M() { \"a\\r\"", "BadEscape", 15),
     ("module M() { /*/", "CommentOpen", 13),
@@ -220,11 +220,7 @@ const FAULTS: [(&str, &str, u32); 10] = [
     ),
     ("module M() { emit; }", "Unexpected", 17),
     ("module M() {", "EndOfText", 12),
-    (
-        "module M() { await count(0, a.now); }",
-        "BadCount",
-        25,
-    ),
+    ("module M() { await count(0, a.now); }", "BadCount", 25),
     ("body twice(n: int): int { n * 2 }", "NoModule", 0),
 ];
 

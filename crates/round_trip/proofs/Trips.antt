@@ -18,8 +18,11 @@ pub has_text : EachSourceTreeHasAText
 has_text m h =
     let words = printed_has_tokens m h in
     let text = printed_is_text m h words.0 words.2 in
-    record { read = text.0; has_tree = record { tokens = words.0; has_tokens = words.1; spells = text.1 };
-        same = text.2 }
+    record {
+      read = text.0;
+      has_tree = record { tokens = words.0; has_tokens = words.1; spells = text.1 };
+      same = text.2;
+    }
 
 pub is_source_tree : EachTreeOfATextIsSource
 is_source_tree text m h = written m (map to_grammar h.tokens) (all_lawful h.has_tokens) h.spells

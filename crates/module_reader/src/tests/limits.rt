@@ -38,11 +38,7 @@ const TOO_DEEP: [(&[(&str, usize)], &str, u32); 7] = [
         "DeepNesting",
         139,
     ),
-    (
-        &[("module M() ", 1), ("{", 129)],
-        "DeepNesting",
-        139,
-    ),
+    (&[("module M() ", 1), ("{", 129)], "DeepNesting", 139),
     (&[("module M() ", 1), ("{", 128)], "EndOfText", 139),
     (
         &[("module M() ", 1), ("{", 128), ("if {", 1), ("}", 128)],
@@ -241,11 +237,7 @@ const LONGEST: [&[(&str, usize)]; 2] = [
 
 /// Names and texts that are one byte longer.
 const TOO_LONG: [(&[(&str, usize)], &str, u32); 3] = [
-    (
-        &[("module ", 1), ("a", 256), ("() {}", 1)],
-        "NameLong",
-        7,
-    ),
+    (&[("module ", 1), ("a", 256), ("() {}", 1)], "NameLong", 7),
     (&[("module M() { ", 1), ("a", 256)], "NameLong", 13),
     (
         &[("module M(in T: text = \"", 1), ("a", 4097), ("\") {}", 1)],

@@ -243,11 +243,7 @@ const NO_TOKENS: [(&str, &str, u32); 10] = [
     ("module M() { if } /* ", "CommentOpen", 18),
     ("module M() {} /*/", "CommentOpen", 14),
     ("module M() { pause; } \"", "TextOpen", 22),
-    (
-        "module M() { async call f() kill \"k\\",
-        "TextOpen",
-        33,
-    ),
+    ("module M() { async call f() kill \"k\\", "TextOpen", 33),
     (
         "module M() { async call f() kill \"k\t\"; }",
         "TextOpen",
