@@ -19,9 +19,11 @@ use Rattle.expression_reader.proofs.ExpressionRules.{begins_expression, good_ope
 pub argument_takes : (room : ℕ) → Takes (p.behind_comma (p.outermost room))
 argument_takes room = shorter (good_behind_comma (good_outermost room 0))
 
-term_takes_by : {x n : ℕ} {ip : Parser (Expr Name)} {il : Lang (Expr Name)} {cont : Terminal → Bool} (lv : Grouping) → In x n ip il false begins_expression cont → Takes (p.term (p.operator lv) ip)
+term_takes_by : {x n : ℕ} {ip : Parser (Expr Name)} {il : Lang (Expr Name)} {cont : Terminal → Bool}
+    (lv : Grouping) → In x n ip il false begins_expression cont → Takes (p.term (p.operator lv) ip)
 unfolding p.term
-term_takes_by {cont = cont} lv h = shorter (good_then (good_operator lv) (λ m. good_made (λ a. (m, a)) h) (fit_any symbols false begins_expression cont))
+term_takes_by {cont = cont} lv h = shorter (good_then (good_operator lv) (λ m. good_made (λ a. (m, a)) h)
+    (fit_any symbols false begins_expression cont))
 
 pub term_takes : (lv : Grouping) (room : ℕ) → Takes (p.term (p.operator lv) (p.between lv (p.inside room)))
 term_takes grouping.Either room = term_takes_by grouping.Either (good_both (good_inside room 0))

@@ -1,3 +1,4 @@
+pub mod Lawful
 pub mod TokenRules
 pub mod PartRules
 pub mod ExpressionRules

@@ -17,22 +17,28 @@ use Rattle.expression_reader.specs.Rules.{Lang, is_quoted, is_number}
 use Rattle.expression_reader.specs.Reference as p
 use Rattle.expression_reader.specs.Reference.{Parser}
 
--- The bundle of the grammar's rules: at a level of counting, with n brackets that may be opened, in a language that may have x more.
-abbrev pub Rule : Level → (x n : ℕ) {A : Type 0} → Parser A → Lang A → Bool → (Terminal → Bool) → (Terminal → Bool) → Type 0
+-- The bundle of the grammar's rules: at a level of counting, with n brackets that may be opened, in a
+-- language that may have x more.
+abbrev pub Rule : Level → (x n : ℕ) {A : Type 0} → Parser A → Lang A → Bool → (Terminal → Bool)
+    → (Terminal → Bool) → Type 0
 Rule v x n p s empty first cont = Good symbols x v n n p s empty first cont
 
 -- inside an expression, and around expressions
-abbrev pub In : (x n : ℕ) {A : Type 0} → Parser A → Lang A → Bool → (Terminal → Bool) → (Terminal → Bool) → Type 0
+abbrev pub In : (x n : ℕ) {A : Type 0} → Parser A → Lang A → Bool → (Terminal → Bool) → (Terminal → Bool)
+    → Type 0
 In = Rule (inner_level symbols)
 
-abbrev pub Out : (x n : ℕ) {A : Type 0} → Parser A → Lang A → Bool → (Terminal → Bool) → (Terminal → Bool) → Type 0
+abbrev pub Out : (x n : ℕ) {A : Type 0} → Parser A → Lang A → Bool → (Terminal → Bool) → (Terminal → Bool)
+    → Type 0
 Out = Rule (outer_level symbols)
 
 module _ {v : Level} {x n : ℕ} where
-  pub good_keyword : (word : Keyword) → Rule v x n (p.keyword word) (g.keyword word) false (is_keyword word) never
+  pub good_keyword : (word : Keyword) → Rule v x n (p.keyword word) (g.keyword word) false
+      (is_keyword word) never
   good_keyword word = good_take (t.Keyword word) refl
 
-  pub good_punct : (mark : Punct) → is_plain symbols (t.Punct mark) ≡ true → Rule v x n (p.punct mark) (g.punct mark) false (is_punct mark) never
+  pub good_punct : (mark : Punct) → is_plain symbols (t.Punct mark) ≡ true
+      → Rule v x n (p.punct mark) (g.punct mark) false (is_punct mark) never
   good_punct mark e = good_take (t.Punct mark) e
 
   pub good_name : Rule v x n p.name g.name false is_name never
@@ -44,5 +50,7 @@ module _ {v : Level} {x n : ℕ} where
   pub good_quoted : Rule v x n p.quoted g.quoted false is_quoted never
   good_quoted = good_one (single_name is_quoted t.Quoted refl) refl
 
-  pub good_number : (least most : ℕ) (f : Fault) → OfRange least most f → in_range least most least ≡ true → Rule v x n (p.number least most f) (g.number least most) false is_number never
-  good_number least most f of_range fits = good_one (single_ranged is_number least most f (λ place text value. (place, value)) of_range least fits t.Number refl) refl
+  pub good_number : (least most : ℕ) (f : Fault) → OfRange least most f → in_range least most least ≡ true
+      → Rule v x n (p.number least most f) (g.number least most) false is_number never
+  good_number least most f of_range fits = good_one (single_ranged is_number least most f
+      (λ place text value. (place, value)) of_range least fits t.Number refl) refl

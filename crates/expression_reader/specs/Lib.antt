@@ -4,4 +4,3 @@ pub mod Rules
 pub mod Reference
 pub mod Refusals
 pub mod Cursor
-pub mod Lawful

@@ -1,6 +1,8 @@
--- The terminal symbols of the grammar: what a token is to it, which may be names, which are brackets, and the limits. This project's own.
+-- The terminal symbols of the grammar: what a token is to it, which may be names, which are brackets, and the
+-- limits. This project's own.
 use Rattle.std.specs.Prelude.{◌≡◌, ℕ, ◌+◌, Bool, true, false, not, List, [], ◌∷◌, Some, refl, codes, if◌then◌else◌}
 use Rattle.std.specs.Str.{bytes_eq}
+use Rattle.module_tree.specs.declared.limits.TheConstants.{OPEN_LIMIT, EXPRESSION_LIMIT}
 use Rattle.hh_base.specs.declared.keyword.Keyword.{Keyword}
 use Rattle.hh_base.specs.declared.keyword.Keyword.TheVariants as w
 use Rattle.module_token.specs.declared.punct.Punct.{Punct}
@@ -146,16 +148,26 @@ abbrev pub kinds : List Terminal
 kinds =
     t.Word ∷ t.Now ∷ t.Pre ∷ t.NowVal ∷ t.PreVal ∷ t.Plus
     ∷ t.Min ∷ t.Max ∷ t.And ∷ t.Or ∷ t.Number ∷ t.Quoted
-    ∷ t.Keyword w.Module ∷ t.Keyword w.In ∷ t.Keyword w.Out ∷ t.Keyword w.Inout ∷ t.Keyword w.Body ∷ t.Keyword w.Host
-    ∷ t.Keyword w.Signal ∷ t.Keyword w.Nothing ∷ t.Keyword w.Pause ∷ t.Keyword w.Halt ∷ t.Keyword w.Emit ∷ t.Keyword w.Sustain
-    ∷ t.Keyword w.If ∷ t.Keyword w.Else ∷ t.Keyword w.Loop ∷ t.Keyword w.Fork ∷ t.Keyword w.Par ∷ t.Keyword w.Await
-    ∷ t.Keyword w.Every ∷ t.Keyword w.Do ∷ t.Keyword w.Abort ∷ t.Keyword w.WeakAbort ∷ t.Keyword w.Suspend ∷ t.Keyword w.Immediate
-    ∷ t.Keyword w.Count ∷ t.Keyword w.Trap ∷ t.Keyword w.Break ∷ t.Keyword w.Run ∷ t.Keyword w.Async ∷ t.Keyword w.Call
-    ∷ t.Keyword w.Kill ∷ t.Keyword w.Resume ∷ t.Keyword w.Combine ∷ t.Keyword w.Pure ∷ t.Keyword w.Int ∷ t.Keyword w.Bool
-    ∷ t.Keyword w.Text ∷ t.Keyword w.True ∷ t.Keyword w.False ∷ t.Punct p.LeftParen ∷ t.Punct p.RightParen ∷ t.Punct p.LeftBrace
-    ∷ t.Punct p.RightBrace ∷ t.Punct p.Comma ∷ t.Punct p.Semicolon ∷ t.Punct p.Colon ∷ t.Punct p.Dot ∷ t.Punct p.Equal
-    ∷ t.Punct p.Question ∷ t.Punct p.Plus ∷ t.Punct p.Minus ∷ t.Punct p.Star ∷ t.Punct p.Slash ∷ t.Punct p.Percent
-    ∷ t.Punct p.Not ∷ t.Punct p.Less ∷ t.Punct p.Greater ∷ t.Punct p.EqualEqual ∷ t.Punct p.NotEqual ∷ t.Punct p.LessEqual
+    ∷ t.Keyword w.Module ∷ t.Keyword w.In ∷ t.Keyword w.Out ∷ t.Keyword w.Inout ∷ t.Keyword w.Body ∷ t.Keyword
+    w.Host
+    ∷ t.Keyword w.Signal ∷ t.Keyword w.Nothing ∷ t.Keyword w.Pause ∷ t.Keyword w.Halt ∷ t.Keyword w.Emit ∷
+    t.Keyword w.Sustain
+    ∷ t.Keyword w.If ∷ t.Keyword w.Else ∷ t.Keyword w.Loop ∷ t.Keyword w.Fork ∷ t.Keyword w.Par ∷ t.Keyword
+    w.Await
+    ∷ t.Keyword w.Every ∷ t.Keyword w.Do ∷ t.Keyword w.Abort ∷ t.Keyword w.WeakAbort ∷ t.Keyword w.Suspend ∷
+    t.Keyword w.Immediate
+    ∷ t.Keyword w.Count ∷ t.Keyword w.Trap ∷ t.Keyword w.Break ∷ t.Keyword w.Run ∷ t.Keyword w.Async ∷
+    t.Keyword w.Call
+    ∷ t.Keyword w.Kill ∷ t.Keyword w.Resume ∷ t.Keyword w.Combine ∷ t.Keyword w.Pure ∷ t.Keyword w.Int ∷
+    t.Keyword w.Bool
+    ∷ t.Keyword w.Text ∷ t.Keyword w.True ∷ t.Keyword w.False ∷ t.Punct p.LeftParen ∷ t.Punct p.RightParen ∷
+    t.Punct p.LeftBrace
+    ∷ t.Punct p.RightBrace ∷ t.Punct p.Comma ∷ t.Punct p.Semicolon ∷ t.Punct p.Colon ∷ t.Punct p.Dot ∷ t.Punct
+    p.Equal
+    ∷ t.Punct p.Question ∷ t.Punct p.Plus ∷ t.Punct p.Minus ∷ t.Punct p.Star ∷ t.Punct p.Slash ∷ t.Punct
+    p.Percent
+    ∷ t.Punct p.Not ∷ t.Punct p.Less ∷ t.Punct p.Greater ∷ t.Punct p.EqualEqual ∷ t.Punct p.NotEqual ∷ t.Punct
+    p.LessEqual
     ∷ t.Punct p.GreaterEqual ∷ t.Punct p.And ∷ t.Punct p.Or ∷ []
 
 pub is_listed : (a : Terminal) → nth kinds (class a) ≡ Some a
@@ -165,9 +177,17 @@ is_listed (t.Punct p.LeftParen) = refl
 is_listed (t.Punct _) = refl
 is_listed _ = refl
 
--- at most 128 brackets are open at once, and an outermost expression has at most 1,024 leaves and operators
+-- the terminals with their limits
 abbrev pub symbols : Alphabet Terminal
-symbols = record { class = class; kinds = kinds; is_listed = is_listed; opens = opens; closes = closes; most_open = 128; most_counted = 1024 }
+symbols = record {
+  class = class;
+  kinds = kinds;
+  is_listed = is_listed;
+  opens = opens;
+  closes = closes;
+  most_open = OPEN_LIMIT;
+  most_counted = EXPRESSION_LIMIT;
+}
 
 abbrev pub is_keyword : Keyword → Terminal → Bool
 is_keyword k = is symbols (t.Keyword k)

@@ -1,4 +1,5 @@
--- How the nodes of an expression are made of what stands in a text. A place is the number of bytes before it. This project's own.
+-- How the nodes of an expression are made of what stands in a text. A place is the number of bytes before it.
+-- This project's own.
 use Rattle.std.specs.Prelude.{ℕ, List, Option, Some, None, fold}
 use Rattle.hh_base.specs.declared.value.Pos.{Pos}
 use Rattle.host_expr.specs.declared.expr.Expr.{Expr, roll-Expr}

@@ -1,10 +1,10 @@
 //! The tokens that are still to be read, and the steps that take one.
-ghost use Rattle.std.specs.Prelude.{◌≡◌, ◌≤◌, Some, true, [], All, IfOk};
+ghost use Rattle.std.specs.Prelude.{◌≡◌, ◌<◌, ◌≤◌, Some, true, [], All, IfOk, OnErr};
 ghost use Rattle.grammar.specs.Fault.{Fault, Unexpected, OutOfRange};
 ghost use Rattle.grammar.specs.Parser as parser;
 ghost use Rattle.grammar.specs.Parser.{Reads};
 ghost use Rattle.grammar.specs.Tokens.{is, in_range};
-ghost use Rattle.expression_reader.specs.Cursor.{IsReadable, toks};
+ghost use Rattle.expression_reader.specs.Cursor.{IsReadable, Shows, toks};
 ghost use Rattle.expression_reader.specs.Reference as rule;
 ghost use Rattle.expression_reader.specs.Refusals.{as_refusal};
 ghost use Rattle.expression_reader.specs.Rules.{is_number, is_quoted, largest};
@@ -14,22 +14,20 @@ use crate::fault::StepError;
 use crate::terminal::Terminal;
 use crate::tokens_left::TokensLeft;
 use grammar::cursor::Cursor;
+use hh_base::keyword::Keyword;
 use hh_base::name::Name;
 use hh_base::text::Text;
 use hh_base::value::Pos;
-use module_tree::source::NameAt;
-use hh_base::keyword::Keyword;
 use module_token::punct::Punct;
 use module_token::token::Token;
+use module_tree::limits::COUNT_LIMIT;
+use module_tree::source::NameAt;
 use sqlite_items::Items;
 use std::alloc::Global;
 use std::marker::Model;
 
-/// The largest number that an expression has.
-const LARGEST: u64 = i64::MAX as u64;
-
-/// The most times that a delay waits.
-const MOST_TIMES: u64 = 64;
+/// The largest integer: the largest number that an expression has.
+pub const LARGEST: u64 = i64::MAX as u64;
 
 /// A reader of the tokens of a text.
 #[derive(Drop)]
@@ -128,7 +126,7 @@ impl<'a> Reader<'a> {
     }
 
     /// Why this bracket cannot be opened where no bracket can.
-    pub fn too_deep(&self, bracket: Punct) -> StepError
+    fn too_deep(&self, bracket: Punct) -> StepError
         ensures { as_refusal result ≡ Some (parser.too_deep symbols (Terminal.Punct bracket) self.now) }
     {
         StepError::from(self.cursor.too_deep(Terminal::Punct(bracket)))
@@ -138,23 +136,42 @@ impl<'a> Reader<'a> {
 
     /// Takes this token, and gives its place.
     pub fn take(&mut self, terminal: Terminal) -> Result<u32, StepError>
-        ensures { Reads as_refusal (parser.take symbols terminal self.old) result self.new }
+        ensures reads { Reads as_refusal (parser.take symbols terminal self.old) result self.new }
+        ensures kept { OnErr result (self.new ≡ self.old) }
     {
         Ok(self.cursor.take(terminal)?)
     }
 
     /// Takes this keyword, and gives its place.
     pub fn keyword(&mut self, keyword: Keyword) -> Result<u32, StepError>
-        ensures { Reads as_refusal (rule.keyword keyword self.old) result self.new }
+        ensures reads { Reads as_refusal (rule.keyword keyword self.old) result self.new }
+        ensures kept { OnErr result (self.new ≡ self.old) }
     {
         self.take(Terminal::Keyword(keyword))
     }
 
     /// Takes this mark, and gives its place.
     pub fn punct(&mut self, punct: Punct) -> Result<u32, StepError>
-        ensures { Reads as_refusal (rule.punct punct self.old) result self.new }
+        ensures reads { Reads as_refusal (rule.punct punct self.old) result self.new }
+        ensures kept { OnErr result (self.new ≡ self.old) }
     {
         self.take(Terminal::Punct(punct))
+    }
+
+    /// Takes this bracket, where so many may still be opened. Gives its place, and how many may be opened behind
+    /// it.
+    #[tactic(auto, unfolding(grammar::specs::Parser::opening, grammar::specs::Parser::too_deep))]
+    pub fn open(&mut self, bracket: Punct, room: u8) -> Result<(u32, u8), StepError>
+        ensures reads { Reads as_refusal
+            (parser.opening symbols room (Terminal.Punct bracket) self.old) result self.new }
+        ensures kept { OnErr result (self.new ≡ self.old) }
+        ensures less { IfOk result (λ opened. opened.1 < room) }
+    {
+        if room == 0 {
+            return Err(self.too_deep(bracket));
+        }
+        let place = self.punct(bracket)?;
+        Ok((place, room - 1))
     }
 
     #[tactic(auto, unfolding(grammar::specs::Parser::sees))]
@@ -188,9 +205,9 @@ impl<'a> Reader<'a> {
     }
 
     /// A name that is the next token, and its place. It is still to be taken.
-    #[tactic(auto, unfolding(grammar::specs::Parser::name, grammar::specs::Parser::sees, grammar::specs::Parser::kind, grammar::specs::Parser::text))]
+    #[tactic(auto, unfolding(grammar::specs::Parser::name, grammar::specs::Parser::sees, grammar::specs::Parser::kind, grammar::specs::Parser::text, grammar::specs::Parser::refusal))]
     fn next_name(&self) -> Result<(u32, Name), StepError>
-        ensures { Reads as_refusal (rule.name self.now) result (parser.next self.now) }
+        ensures { Shows as_refusal (rule.name self.now) result self.now }
     {
         if !self.sees_name() {
             return Err(self.refuse());
@@ -200,9 +217,9 @@ impl<'a> Reader<'a> {
     }
 
     /// A quoted text that is the next token, and its place. It is still to be taken.
-    #[tactic(auto, unfolding(grammar::specs::Parser::name, grammar::specs::Parser::sees, grammar::specs::Parser::kind, grammar::specs::Parser::text))]
+    #[tactic(auto, unfolding(grammar::specs::Parser::name, grammar::specs::Parser::sees, grammar::specs::Parser::kind, grammar::specs::Parser::text, grammar::specs::Parser::refusal))]
     fn next_quoted(&self) -> Result<(u32, Text), StepError>
-        ensures { Reads as_refusal (rule.quoted self.now) result (parser.next self.now) }
+        ensures { Shows as_refusal (rule.quoted self.now) result self.now }
     {
         if !self.sees_quoted() {
             return Err(self.refuse());
@@ -211,12 +228,18 @@ impl<'a> Reader<'a> {
         Ok((self.place(), text))
     }
 
-    /// A number that is the next token, between these two, and its place. It is still to be taken. Any other number
-    /// is refused by `otherwise`, a fault at the next token.
-    #[tactic(auto, unfolding(grammar::specs::Parser::ranged, grammar::specs::Parser::fail))]
-    fn next_number(&self, least: u64, most: u64, otherwise: StepError) -> Result<(u32, u64), StepError>
-        ensures reads { (fault : Fault) → as_refusal otherwise ≡ Some (record { place = parser.place self.now; fault = fault })
-            → Reads as_refusal (rule.number least most fault self.now) result (parser.next self.now) }
+    /// A number that is the next token, between these two, and its place. It is still to be taken. Any other
+    /// number is refused by `otherwise`, a fault at the next token.
+    #[tactic(auto, unfolding(grammar::specs::Parser::ranged, grammar::specs::Parser::fail, grammar::specs::Parser::refusal))]
+    fn next_number(
+        &self,
+        least: u64,
+        most: u64,
+        otherwise: StepError,
+    ) -> Result<(u32, u64), StepError>
+        ensures reads { (fault : Fault)
+            → as_refusal otherwise ≡ Some (record { place = parser.place self.now; fault = fault })
+            → Shows as_refusal (rule.number least most fault self.now) result self.now }
         ensures within { IfOk result (λ n. in_range least most n.1 ≡ true) }
     {
         if !self.sees_number() {
@@ -231,7 +254,8 @@ impl<'a> Reader<'a> {
 
     /// Takes a name, and gives its place too.
     pub fn name(&mut self) -> Result<(u32, Name), StepError>
-        ensures { Reads as_refusal (rule.name self.old) result self.new }
+        ensures reads { Reads as_refusal (rule.name self.old) result self.new }
+        ensures kept { OnErr result (self.new ≡ self.old) }
     {
         let name = self.next_name()?;
         self.cursor.skip();
@@ -240,7 +264,8 @@ impl<'a> Reader<'a> {
 
     /// A name, as where it stands.
     pub fn name_at(&mut self) -> Result<NameAt<Name>, StepError>
-        ensures { Reads as_refusal (rule.named self.old) result self.new }
+        ensures reads { Reads as_refusal (rule.named self.old) result self.new }
+        ensures kept { OnErr result (self.new ≡ self.old) }
     {
         let (pos, name) = self.name()?;
         Ok(NameAt {
@@ -251,7 +276,8 @@ impl<'a> Reader<'a> {
 
     /// Takes a quoted text, and gives its place too.
     pub fn quoted(&mut self) -> Result<(u32, Text), StepError>
-        ensures { Reads as_refusal (rule.quoted self.old) result self.new }
+        ensures reads { Reads as_refusal (rule.quoted self.old) result self.new }
+        ensures kept { OnErr result (self.new ≡ self.old) }
     {
         let text = self.next_quoted()?;
         self.cursor.skip();
@@ -261,6 +287,7 @@ impl<'a> Reader<'a> {
     /// Takes a number of at most this value, and gives its place too. Any other may not stand here.
     pub fn number_up_to(&mut self, most: u64) -> Result<(u32, u64), StepError>
         ensures reads { Reads as_refusal (rule.number 0 most Unexpected self.old) result self.new }
+        ensures kept { OnErr result (self.new ≡ self.old) }
         ensures small { IfOk result (λ n. n.1 ≤ most) }
     {
         let not_here = StepError::Unexpected(self.place());
@@ -271,10 +298,11 @@ impl<'a> Reader<'a> {
 
     /// Takes how often something is waited for, and gives its place too.
     pub fn times(&mut self) -> Result<(u32, u8), StepError>
-        ensures { Reads as_refusal (rule.number 1 64 (OutOfRange 1 64) self.old) result self.new }
+        ensures reads { Reads as_refusal (rule.how_often self.old) result self.new }
+        ensures kept { OnErr result (self.new ≡ self.old) }
     {
         let out_of_range = StepError::BadCount(self.place());
-        let (pos, times) = self.next_number(1, MOST_TIMES, out_of_range)?;
+        let (pos, times) = self.next_number(1, COUNT_LIMIT, out_of_range)?;
         self.cursor.skip();
         Ok((pos, times as u8))
     }
@@ -290,7 +318,8 @@ impl<'a> Reader<'a> {
 
     /// Takes this token, which is a leaf or an operator, and gives its place.
     pub(crate) fn counted_token(&mut self, terminal: Terminal) -> Result<u32, StepError>
-        ensures { Reads as_refusal (parser.counted_token symbols terminal self.old) result self.new }
+        ensures reads { Reads as_refusal (parser.counted_token symbols terminal self.old) result self.new }
+        ensures kept { OnErr result (self.new ≡ self.old) }
     {
         Ok(self.cursor.counted_token(terminal)?)
     }
@@ -298,7 +327,8 @@ impl<'a> Reader<'a> {
     /// Takes a name that begins a leaf, and gives its place too.
     #[tactic(auto, unfolding(grammar::specs::Parser::counted, grammar::specs::Parser::skipped, grammar::specs::Parser::fail))]
     pub(crate) fn counted_name(&mut self) -> Result<(u32, Name), StepError>
-        ensures { Reads as_refusal (parser.counted symbols rule.name self.old) result self.new }
+        ensures reads { Reads as_refusal (parser.counted symbols rule.name self.old) result self.new }
+        ensures kept { OnErr result (self.new ≡ self.old) }
     {
         let name = self.next_name()?;
         self.cursor.skip_counted()?;
@@ -308,7 +338,8 @@ impl<'a> Reader<'a> {
     /// Takes a quoted text that is a leaf, and gives its place too.
     #[tactic(auto, unfolding(grammar::specs::Parser::counted, grammar::specs::Parser::skipped, grammar::specs::Parser::fail))]
     pub(crate) fn counted_quoted(&mut self) -> Result<(u32, Text), StepError>
-        ensures { Reads as_refusal (parser.counted symbols rule.quoted self.old) result self.new }
+        ensures reads { Reads as_refusal (parser.counted symbols rule.quoted self.old) result self.new }
+        ensures kept { OnErr result (self.new ≡ self.old) }
     {
         let text = self.next_quoted()?;
         self.cursor.skip_counted()?;
@@ -318,7 +349,8 @@ impl<'a> Reader<'a> {
     /// Takes a number that is a leaf, and gives its place too.
     #[tactic(auto, unfolding(grammar::specs::Parser::counted, grammar::specs::Parser::skipped, grammar::specs::Parser::fail))]
     pub(crate) fn counted_number(&mut self) -> Result<(u32, u64), StepError>
-        ensures reads { Reads as_refusal (parser.counted symbols (rule.number 0 largest (OutOfRange 0 largest)) self.old) result self.new }
+        ensures reads { Reads as_refusal (parser.counted symbols rule.leaf_number self.old) result self.new }
+        ensures kept { OnErr result (self.new ≡ self.old) }
         ensures small { IfOk result (λ n. n.1 ≤ largest) }
     {
         let too_large = StepError::NumberLarge(self.place());

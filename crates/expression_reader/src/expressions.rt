@@ -7,14 +7,14 @@ ghost use Rattle.expression_reader.specs.Reference as rule;
 
 use crate::cursor::Reader;
 use crate::fault::StepError;
-use crate::operator::{Access, Grouping, Operator, choose, apply, node};
+use crate::operator::{Access, Grouping, Operator, apply, choose, node};
 use crate::terminal::Terminal;
+use hh_base::keyword::Keyword;
 use hh_base::name::Name;
 use hh_base::value::Pos;
-use module_tree::source::ExprAt;
 use host_expr::expr::{Expr, ExprNode, Op, Rel};
-use hh_base::keyword::Keyword;
 use module_token::punct::Punct;
+use module_tree::source::ExprAt;
 use sqlite_items::{Boxed, Items};
 
 impl<'a> Reader<'a> {
@@ -245,8 +245,13 @@ impl<'a> Reader<'a> {
     /// An operator of a level, and the operand behind it.
     #[cycle(expression)]
     #[tactic(auto, unfolding(crate::specs::Reference::term))]
-    fn term(&mut self, grouping: Grouping, room: u8) -> Result<((u32, Operator), Expr<Name>), StepError>
-        ensures { Reads as_refusal (rule.term (rule.operator grouping) (rule.between grouping (rule.inside room)) self.old) result self.new }
+    fn term(
+        &mut self,
+        grouping: Grouping,
+        room: u8,
+    ) -> Result<((u32, Operator), Expr<Name>), StepError>
+        ensures { Reads as_refusal (rule.term (rule.operator grouping)
+            (rule.between grouping (rule.inside room)) self.old) result self.new }
     {
         let operator = self.operator(grouping)?;
         let operand = self.between(grouping, room)?;
@@ -257,7 +262,8 @@ impl<'a> Reader<'a> {
     #[cycle(expression)]
     #[tactic(auto, unfolding(crate::specs::Reference::chain))]
     fn chain(&mut self, grouping: Grouping, room: u8) -> Result<Expr<Name>, StepError>
-        ensures { Reads as_refusal (rule.chain grouping (rule.between grouping (rule.inside room)) self.old) result self.new }
+        ensures { Reads as_refusal (rule.chain grouping
+            (rule.between grouping (rule.inside room)) self.old) result self.new }
     {
         let mut left = self.between(grouping, room)?;
         'terms: while self.sees_operator(grouping) {
@@ -271,7 +277,8 @@ impl<'a> Reader<'a> {
     #[cycle(expression)]
     #[tactic(auto, unfolding(crate::specs::Reference::term))]
     fn related(&mut self, room: u8) -> Result<((u32, Operator), Expr<Name>), StepError>
-        ensures { Reads as_refusal (rule.term rule.relation (rule.sum (rule.inside room)) self.old) result self.new }
+        ensures { Reads as_refusal (rule.term rule.relation
+            (rule.sum (rule.inside room)) self.old) result self.new }
     {
         let operator = self.relation()?;
         let operand = self.chain(Grouping::Sum, room)?;
@@ -321,15 +328,12 @@ impl<'a> Reader<'a> {
 
     /// An expression in round brackets.
     #[cycle(expression)]
-    #[tactic(auto, unfolding(crate::specs::Reference::inside, crate::specs::Reference::in_round, grammar::specs::Parser::opened))]
+    #[tactic(auto, using(crate::proofs::Closings::inside_opened), unfolding(crate::specs::Reference::in_round, grammar::specs::Parser::opened))]
     fn inside(&mut self, room: u8) -> Result<Expr<Name>, StepError>
         ensures { Reads as_refusal (rule.inside room self.old) result self.new }
     {
-        if room == 0 {
-            return Err(self.too_deep(Punct::LeftParen));
-        }
-        self.punct(Punct::LeftParen)?;
-        let expr = self.expression(room - 1)?;
+        let (_, left) = self.open(Punct::LeftParen, room)?;
+        let expr = self.expression(left)?;
         self.punct(Punct::RightParen)?;
         Ok(expr)
     }
@@ -350,11 +354,8 @@ impl<'a> Reader<'a> {
     pub fn test(&mut self, room: u8) -> Result<ExprAt<Name>, StepError>
         ensures { Reads as_refusal (rule.test room self.old) result self.new }
     {
-        if room == 0 {
-            return Err(self.too_deep(Punct::LeftParen));
-        }
-        self.punct(Punct::LeftParen)?;
-        let expr = self.outermost(room - 1)?;
+        let (_, left) = self.open(Punct::LeftParen, room)?;
+        let expr = self.outermost(left)?;
         self.punct(Punct::RightParen)?;
         Ok(expr)
     }
@@ -398,11 +399,8 @@ impl<'a> Reader<'a> {
     pub fn arguments(&mut self, room: u8) -> Result<Items<ExprAt<Name>>, StepError>
         ensures { Reads as_refusal (rule.in_round rule.arguments room self.old) result self.new }
     {
-        if room == 0 {
-            return Err(self.too_deep(Punct::LeftParen));
-        }
-        self.punct(Punct::LeftParen)?;
-        let list = self.exprs_or_none(room - 1)?;
+        let (_, left) = self.open(Punct::LeftParen, room)?;
+        let list = self.exprs_or_none(left)?;
         self.punct(Punct::RightParen)?;
         Ok(list)
     }

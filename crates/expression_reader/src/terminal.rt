@@ -7,9 +7,7 @@ use grammar::kinds::Kinds;
 use hh_base::keyword::Keyword;
 use module_token::punct::Punct;
 use module_token::token::TokenKind;
-
-/// The most leaves and operators of an outermost expression.
-const MOST_COUNTED: u32 = 1_024;
+use module_tree::limits::EXPRESSION_LIMIT;
 
 /// A terminal symbol of the grammar: what the reader looks at to choose a rule. The words from `Now` on have
 /// a meaning behind `.` or `combine`, and are names elsewhere, as `Word` is.
@@ -120,6 +118,6 @@ impl Kinds for Terminal {
     }
 
     fn most_counted() -> u32 {
-        MOST_COUNTED
+        EXPRESSION_LIMIT
     }
 }

@@ -3,14 +3,14 @@
 use crate::cursor::Reader;
 use crate::fault::StepError;
 use crate::terminal::Terminal;
+use hh_base::keyword::Keyword;
 use hh_base::value::Pos;
 use host_expr::expr::{ExprNode, Op};
-use hh_base::keyword::Keyword;
 use module_token::punct::Punct;
 use module_token::token::Token;
 use module_token::tokens::tokens;
 use sqlite_items::Items;
-use std::alloc::{AllocError, Global};
+use std::alloc::Global;
 
 /// What a text is to begin with.
 #[derive(Clone, Copy)]
@@ -31,7 +31,7 @@ enum Part {
 }
 
 /// Whether all that looks at the next token sees the bracket that a text begins with.
-fn sees_bracket(reader: &Reader<'_>) -> bool {
+fn sees_bracket(reader: &mut Reader<'_>) -> bool {
     let list: Items<u8> = reader.empty_list();
     reader.kind() == Some(Terminal::Punct(Punct::LeftParen))
         && reader.sees(Terminal::Punct(Punct::LeftParen))
@@ -39,7 +39,7 @@ fn sees_bracket(reader: &Reader<'_>) -> bool {
         && !reader.sees_keyword(Keyword::Emit)
         && reader.sees_in_round()
         && reader.sees_in_curly()
-        && reader.too_deep(Punct::LeftParen) == StepError::DeepNesting(0)
+        && reader.open(Punct::LeftParen, 0) == Err(StepError::DeepNesting(0))
         && list.is_empty()
 }
 
@@ -76,7 +76,8 @@ fn read_part(reader: &mut Reader<'_>, part: Part) -> Result<u32, StepError> {
     }
 }
 
-/// What reading the part gives: a place, a number that was read, or 1 for yes. None where the text has no tokens.
+/// What reading the part gives: a place, a number that was read, or 1 for yes. None where the text has no
+/// tokens.
 fn read_of(alloc: Global, text: &str, part: Part) -> Option<Result<u32, StepError>> {
     if text.len() >= 1 << 32 {
         return None;
@@ -90,70 +91,44 @@ fn read_of(alloc: Global, text: &str, part: Part) -> Option<Result<u32, StepErro
     }
 }
 
+/// Texts, what is read of each, and what that gives.
+const TEXTS: [(&str, Part, Result<u32, StepError>); 27] = [
+    (" emit A;", Part::Emit, Ok(1)),
+    ("plus", Part::Plus, Ok(0)),
+    (" now.", Part::Name, Ok(1)),
+    ("  A, B", Part::NameAt, Ok(2)),
+    (" \"a\"", Part::Quoted, Ok(1)),
+    (" 9", Part::Number, Ok(1)),
+    ("64, A.now", Part::Times, Ok(64)),
+    (" A.now && B.pre) {}", Part::Outermost, Ok(1)),
+    ("((1) == - 1)", Part::Tested, Ok(1)),
+    ("()", Part::Arguments, Ok(0)),
+    ("(1, A.nowval ? 2 : (3), \"a\")", Part::Arguments, Ok(1)),
+    ("(1-2-3)", Part::Difference, Ok(1)),
+    ("(", Part::Bracket, Ok(1)),
+    ("// a", Part::Nothing, Ok(0)),
+    ("A", Part::Emit, Err(StepError::Unexpected(0))),
+    (" 10", Part::Number, Err(StepError::Unexpected(1))),
+    ("if", Part::NameAt, Err(StepError::Unexpected(0))),
+    (" A", Part::Nothing, Err(StepError::Unexpected(1))),
+    ("a < b < c) ", Part::Tested, Err(StepError::Unexpected(0))),
+    ("", Part::Name, Err(StepError::EndOfText(0))),
+    ("1 +", Part::Outermost, Err(StepError::EndOfText(3))),
+    ("(1, ", Part::Arguments, Err(StepError::EndOfText(4))),
+    ("(((1)))", Part::Outermost, Err(StepError::DeepNesting(2))),
+    ("(((1)))", Part::Tested, Err(StepError::DeepNesting(2))),
+    (
+        "-9223372036854775808",
+        Part::Outermost,
+        Err(StepError::NumberLarge(1)),
+    ),
+    ("65,", Part::Times, Err(StepError::BadCount(0))),
+    ("0,", Part::Times, Err(StepError::BadCount(0))),
+];
+
 #[test]
 fn reads_parts(rt: HostRuntime) {
-    let texts = [
-        (" emit A;", Part::Emit, 1),
-        ("plus", Part::Plus, 0),
-        (" now.", Part::Name, 1),
-        ("  A, B", Part::NameAt, 2),
-        (" \"a\"", Part::Quoted, 1),
-        (" 9", Part::Number, 1),
-        ("64, A.now", Part::Times, 64),
-        (" A.now && B.pre) {}", Part::Outermost, 1),
-        ("((1) == - 1)", Part::Tested, 1),
-        ("()", Part::Arguments, 0),
-        ("(1, A.nowval ? 2 : (3), \"a\")", Part::Arguments, 1),
-        ("(1-2-3)", Part::Difference, 1),
-        ("(", Part::Bracket, 1),
-        ("// a", Part::Nothing, 0),
-    ];
-    for (text, part, gives) in texts {
-        assert!(rt; read_of(rt.alloc(), text, part) == Some(Ok(gives)));
+    for (text, part, gives) in TEXTS {
+        assert!(rt; read_of(rt.alloc(), text, part) == Some(gives), "{text}");
     }
-}
-
-#[test]
-fn refuses_parts(rt: HostRuntime) {
-    let texts = [
-        ("A", Part::Emit, StepError::Unexpected(0)),
-        (" 10", Part::Number, StepError::Unexpected(1)),
-        ("if", Part::NameAt, StepError::Unexpected(0)),
-        (" A", Part::Nothing, StepError::Unexpected(1)),
-        ("a < b < c) ", Part::Tested, StepError::Unexpected(0)),
-        ("", Part::Name, StepError::EndOfText(0)),
-        ("1 +", Part::Outermost, StepError::EndOfText(3)),
-        ("(1, ", Part::Arguments, StepError::EndOfText(4)),
-        ("(((1)))", Part::Outermost, StepError::DeepNesting(2)),
-        ("(((1)))", Part::Tested, StepError::DeepNesting(2)),
-        (
-            "-9223372036854775808",
-            Part::Outermost,
-            StepError::NumberLarge(1),
-        ),
-        ("65,", Part::Times, StepError::BadCount(0)),
-        ("0,", Part::Times, StepError::BadCount(0)),
-    ];
-    for (text, part, refused) in texts {
-        assert!(rt; read_of(rt.alloc(), text, part) == Some(Err(refused)));
-    }
-}
-
-/// So many leaves, with an operator between each and the next.
-fn sum_of(alloc: Global, leaves: usize) -> Result<String, AllocError> {
-    let mut text = String::from_str(alloc, "1")?;
-    for _ in 1..leaves {
-        text.push_str("+1")?;
-    }
-    Ok(text)
-}
-
-#[test]
-fn counts_leaves_and_operators(rt: HostRuntime) {
-    let largest = sum_of(rt.alloc(), 512).expect(&rt, "a text");
-    assert!(rt; read_of(rt.alloc(), largest.as_str(), Part::Outermost) == Some(Ok(0)));
-    let larger = sum_of(rt.alloc(), 513).expect(&rt, "a text");
-    assert!(rt;
-        read_of(rt.alloc(), larger.as_str(), Part::Outermost) == Some(Err(StepError::ExprLarge(1024)))
-    );
 }

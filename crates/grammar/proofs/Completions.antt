@@ -6,7 +6,7 @@ use Rattle.grammar.specs.Tokens.{Tok, Alphabet}
 use Rattle.grammar.specs.Fault.{Fault, Unexpected, EndOfText, Deep, Large, OutOfRange, Refusal}
 use Rattle.grammar.specs.Language as l
 use Rattle.grammar.specs.Language.{Lang}
-use Rattle.grammar.specs.Parser.{Parser, Parsed, start, whole}
+use Rattle.grammar.specs.Parser.{Unread, Parser, Parsed, Reads, place, start, whole}
 use Rattle.grammar.specs.Texts.{Counts, Text, Within, Viable, Clean, IsPastLimit, FaultAt, FirstFault}
 use Rattle.grammar.proofs.Bundle.{Kept, Good}
 use Rattle.grammar.proofs.Levels.{outer_level}
@@ -79,13 +79,24 @@ module _ {K A : Type 0} (al : Alphabet K) (texts : ℕ → Lang K A) (p : Parser
   kept_at ts b z = (good_whole (g z.1.0)).kept (start ts 0) b ts [] z.0 (sym (append-nil ts)) (subst (λ n. texts n b ts z.0) (sym (deeper-sum al.most_open z.1.0)) z.1.1) refl
 
   alone_by : (ts : List (Tok K)) (a b : A) (o : Parsed K A) → whole p (start ts 0) ≡ o → Within al texts a ts → Text al texts b ts → b ≡ a
+  unfolding place
   alone_by ts a b (Ok q) e y z =
       let read : q.0 ≡ a = is_read al texts p g {E = Refusal} (λ r. Some r) 0 ts (Ok q.0) q.1 e a y in
       sym (subst (λ o. Kept z.1.0 (outer_level al) 0 z.0 o b []) e (kept_at ts b z)).0 ∙ read
-  alone_by ts a b (Err r) e y z = absurd (let refused : ◌≡◌ {A = Option Refusal} (Some r) None = is_read al texts p g {E = Refusal} (λ r. Some r) 0 ts (Err r) (start ts 0) (λ s same. e ∙ ap (λ s. Err s) (known r s same)) a y in let no : ⊥ = cc in no)
+  alone_by ts a b (Err r) e y z = absurd (let h : ◌≡◌ {A = Option Refusal} (Some r) None = refused in let no : ⊥ = cc in no)
     where
-      known : (r s : Refusal) → ◌≡◌ {A = Option Refusal} (Some r) (Some s) → r ≡ s
-      known r s same = cc
+      known : (s : Refusal) → ◌≡◌ {A = Option Refusal} (Some r) (Some s) → r ≡ s
+      known s same = cc
+
+      -- a reader at the end of a text of this size stands where the refusal does
+      ended : Unread K
+      ended = record { rest = []; count = 0; size = r.place }
+
+      refuses : Reads {E = Refusal} (λ s. Some s) (whole p (start ts 0)) (Err r) ended
+      refuses s same = record { refused = e ∙ ap (λ s. Err s) (known s same); stands = ap (λ (s : Refusal). s.place) (known s same) }
+
+      refused : ◌≡◌ {A = Option Refusal} (Some r) None
+      refused = is_read al texts p g {E = Refusal} (λ s. Some s) 0 ts (Err r) ended refuses a y
 
   -- a text within the limits has no other tree
   pub text_alone : (ts : List (Tok K)) (a b : A) → Within al texts a ts → Text al texts b ts → b ≡ a

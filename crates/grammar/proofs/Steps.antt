@@ -4,7 +4,7 @@ use Rattle.std.specs.Prelude.{IsErrAnd}
 use Rattle.std.proofs.lemmas.Result.{err_from_is_err_and}
 use Rattle.grammar.specs.Tokens.{Tok, kind_of, passes}
 use Rattle.grammar.specs.Fault.{Refusal}
-use Rattle.grammar.specs.Parser.{Unread, Parser, Parsed, Reads, and_then, sees, kind, next, tail_of}
+use Rattle.grammar.specs.Parser.{Unread, Parser, Parsed, Reads, Refuses, and_then, sees, kind, next, tail_of}
 
 -- where a bracket may be opened, a rule is that of one less behind it
 pub room_left : {X : Type 0} (rule : ℕ → X) (room : ℕ) → room ≢ 0 → rule room ≡ rule (suc (room - 1))
@@ -34,7 +34,7 @@ next_shorter {K} test i e = by_rest i.rest e
     by_rest (t ∷ ts) h = omega arith
 
 -- an exit by `?`: its error is the one that the call gave
-pub reads_exit : {K A E : Type 0} (seen : E → Option Refusal) (outcome : Parsed K A) (new : Unread K) (result : Result A E) (given : E) → IsErrAnd result (λ e. e ≡ given) → ((r : Refusal) → seen given ≡ Some r → outcome ≡ Err r) → Reads seen outcome result new
+pub reads_exit : {K A E : Type 0} (seen : E → Option Refusal) (outcome : Parsed K A) (new : Unread K) (result : Result A E) (given : E) → IsErrAnd result (λ e. e ≡ given) → ((r : Refusal) → seen given ≡ Some r → Refuses outcome r new) → Reads seen outcome result new
 reads_exit {E = E} seen outcome new result given exit h =
     let p = err_from_is_err_and result exit in
     rw (p.1, p.2) h

@@ -274,9 +274,9 @@ module _ {K A : Type 0} (al : Alphabet K) (texts : ℕ → Lang K A) (p : Parser
       where
         by_cause : (o : Option Refusal) → seen e ≡ o → seen e ≡ None
         by_cause None c = c
-        by_cause (Some r) c = absurd (not_refused size ts a r (h r c) y)
+        by_cause (Some r) c = absurd (not_refused size ts a r (h r c).refused y)
 
     -- where it refuses, it is the first fault
     pub is_first : (result : Result A E) (new : Unread K) → Reads seen (whole p (start ts size)) result new → IfErr result (λ e. (r : Refusal) → seen e ≡ Some r → FirstFault al texts size ts r)
     is_first (Ok a) new h = tt
-    is_first (Err e) new h = λ r c. text_fault size ts r (h r c)
+    is_first (Err e) new h = λ r c. text_fault size ts r (h r c).refused

@@ -145,10 +145,14 @@ too_deep al a i = record { place = place i; fault = if sees (is al a) i then Dee
 abbrev pub closed : {K A : Type 0} → Alphabet K → K → Parser K A
 closed al a = λ i. Err (too_deep al a i)
 
--- what begins with an opening bracket of this kind, where so many may be opened: the rest by how many are left, and by the bracket's place
+-- an opening bracket of this kind, where so many may be opened: its place, and how many may be behind it
+unfoldable pub opening : {K : Type 0} → Alphabet K → ℕ → K → Parser K (ℕ × ℕ)
+opening al zero a = closed al a
+opening al (suc room) a = take al a >>= λ place. pure (place, room)
+
+-- what begins with one: the rest by how many are left, and by the bracket's place
 unfoldable pub opened : {K A : Type 0} → Alphabet K → ℕ → K → (ℕ → ℕ → Parser K A) → Parser K A
-opened al zero a rest = closed al a
-opened al (suc room) a rest = take al a >>= rest room
+opened al room a rest = opening al room a >>= λ bracket. rest bracket.1 bracket.0
 
 -- an outermost expression counts its leaves and operators from 0
 abbrev pub outer : {K A : Type 0} → Parser K A → Parser K A
@@ -169,10 +173,15 @@ many starts p = λ i. many_for (length i.rest) starts p i
 
 -- ---- what a function that reads ensures
 
+-- the reader refuses, and stands at the token that it refuses, or at the end
+pub record Refuses {K A : Type 0} (outcome : Parsed K A) (r : Refusal) (new : Unread K) : Type 0 where
+  pub refused : outcome ≡ Err r
+  pub stands : place new ≡ r.place
+
 -- The result is the outcome, unless memory runs out. `seen` tells what refusal an error is, None for want of memory.
 abbrev pub Reads : {K A E : Type 0} → (E → Option Refusal) → Parsed K A → Result A E → Unread K → Type 0
 Reads seen outcome (Ok a) new = outcome ≡ Ok (a, new)
-Reads seen outcome (Err e) new = (r : Refusal) → seen e ≡ Some r → outcome ≡ Err r
+Reads seen outcome (Err e) new = (r : Refusal) → seen e ≡ Some r → Refuses outcome r new
 
 -- the same for a whole text, of which nothing is left to be read
 abbrev pub Exact : {K A E : Type 0} → (E → Option Refusal) → Parsed K A → Result A E → Type 0

@@ -1,5 +1,5 @@
--- What is promised of reading a whole text: its tree, or the first fault. `texts room` is the grammar of a whole text in which at most `room` brackets are open
--- at once. This project's own.
+-- What is promised of reading a whole text: its tree, or the first fault. `texts room` is the grammar of a
+-- whole text in which at most `room` brackets are open at once. This project's own.
 use Rattle.std.specs.Prelude.{◌≡◌, ℕ, suc, ◌+◌, ◌<◌, ◌≤◌, true, false, List, [], ◌∷◌, ◌++◌, length, Option, None, Result, Ok, Err}
 use Rattle.std.specs.List.{AllByRecursion}
 use Rattle.grammar.specs.Tokens.{Tok, Alphabet, place_of, how_many, in_range}

@@ -1,5 +1,5 @@
 //! A cursor over the tokens of a text, and the steps that take one.
-ghost use Rattle.std.specs.Prelude.{◌≡◌};
+ghost use Rattle.std.specs.Prelude.{◌≡◌, OnErr};
 ghost use Rattle.grammar.specs.Tokens.{is};
 ghost use Rattle.grammar.specs.Parser as parser;
 ghost use Rattle.grammar.specs.Parser.{Reads};
@@ -139,9 +139,10 @@ impl<T: Tokens> Cursor<T> {
     ///
     /// # Errors
     /// `Unexpected` at another token, `EndOfText` at the end.
-    #[tactic(auto, unfolding(crate::specs::Parser::take))]
+    #[tactic(auto, unfolding(crate::specs::Parser::take, crate::specs::Parser::refusal))]
     pub fn take(&mut self, kind: T::Kind) -> Result<u32, Refusal>
-        ensures { Reads as_refusal (parser.take T.Kind.alphabet kind self.old) result self.new }
+        ensures reads { Reads as_refusal (parser.take T.Kind.alphabet kind self.old) result self.new }
+        ensures kept { OnErr result (self.new ≡ self.old) }
     {
         let place = self.place();
         if self.sees(kind) {
@@ -158,7 +159,8 @@ impl<T: Tokens> Cursor<T> {
     /// `Large` where no more may be counted.
     #[tactic(auto, unfolding(crate::specs::Parser::counted, crate::specs::Parser::skipped, crate::specs::Parser::fail, crate::specs::Parser::next))]
     pub fn skip_counted(&mut self) -> Result<(), Refusal>
-        ensures { Reads as_refusal (parser.counted T.Kind.alphabet parser.skipped self.old) result self.new }
+        ensures reads { Reads as_refusal (parser.counted T.Kind.alphabet parser.skipped self.old) result self.new }
+        ensures kept { OnErr result (self.new ≡ self.old) }
     {
         if self.count >= T::Kind::most_counted() {
             return Err(self.fails(Fault::Large));
@@ -172,9 +174,10 @@ impl<T: Tokens> Cursor<T> {
     ///
     /// # Errors
     /// `Unexpected` at another token, `EndOfText` at the end, `Large` where no more may be counted.
-    #[tactic(auto, unfolding(crate::specs::Parser::counted_token, crate::specs::Parser::take, crate::specs::Parser::counted, crate::specs::Parser::skipped, crate::specs::Parser::fail, crate::specs::Parser::next))]
+    #[tactic(auto, unfolding(crate::specs::Parser::counted_token, crate::specs::Parser::take, crate::specs::Parser::refusal, crate::specs::Parser::counted, crate::specs::Parser::skipped, crate::specs::Parser::fail, crate::specs::Parser::next))]
     pub fn counted_token(&mut self, kind: T::Kind) -> Result<u32, Refusal>
-        ensures { Reads as_refusal (parser.counted_token T.Kind.alphabet kind self.old) result self.new }
+        ensures reads { Reads as_refusal (parser.counted_token T.Kind.alphabet kind self.old) result self.new }
+        ensures kept { OnErr result (self.new ≡ self.old) }
     {
         let place = self.place();
         if !self.sees(kind) {
@@ -188,7 +191,7 @@ impl<T: Tokens> Cursor<T> {
     ///
     /// # Errors
     /// `Unexpected` at the next token, where there is one.
-    #[tactic(auto, unfolding(crate::specs::Parser::finish))]
+    #[tactic(auto, unfolding(crate::specs::Parser::finish, crate::specs::Parser::refusal))]
     pub fn finish(&self) -> Result<(), Refusal>
         ensures { Reads as_refusal (parser.finish self.now) result self.now }
     {

@@ -184,8 +184,9 @@ fn push_escaped(out: &mut Vec<u8>, byte: u8) -> Result<(), NoMemory>
     Ok(())
 }
 
-/// The text between quotes.
-fn quote(alloc: Global, text: &[u8]) -> Result<Vec<u8>, NoMemory>
+/// The bytes of a text between quotes, with a backslash before each quote and backslash, and `\n` and `\t` for
+/// LF and TAB: the literal of the text, and the token that module texts have for it.
+pub fn quote(alloc: Global, text: &[u8]) -> Result<Vec<u8>, NoMemory>
     ensures { IfOk result (λ v. v.items ≡ quoted text.now) }
 {
     let mut out = Vec::new(alloc);

@@ -1,5 +1,5 @@
--- The tokens of values and expressions, each as its text, with exactly the parentheses that are needed.
--- This project's own.
+-- The tokens of values and expressions, each as its text, with exactly the parentheses that are needed. This
+-- project's own.
 use Rattle.std.specs.Prelude.{ℕ, suc, Bool, ℤ, pos, negsuc, List, [], ◌∷◌, ◌++◌, codes, if◌then◌else◌}
 use Rattle.std.specs.Fmt.{decimal}
 use Rattle.hh_base.specs.Literal.{quoted}

@@ -89,7 +89,8 @@ abbrev pub tokens_of_combine : CombineWord → Lexemes
 tokens_of_combine w = codes "combine" ∷ token_of_combine w ∷ []
 
 abbrev pub tokens_of_signal : SignalNode → Lexemes
-tokens_of_signal s = s.name ∷ (tokens_of_type s.kind ++ if_there tokens_of_first s.first ++ if_there tokens_of_combine s.combine)
+tokens_of_signal s = s.name ∷ (tokens_of_type s.kind ++ if_there tokens_of_first s.first
+    ++ if_there tokens_of_combine s.combine)
 
 abbrev pub tokens_of_interface : InterfaceNode → Lexemes
 tokens_of_interface d = tokens_of_dir d.dir ++ tokens_of_signal d.signal
@@ -106,7 +107,8 @@ tokens_of_test x = in_parentheses (tokens_of_outermost x)
 
 abbrev pub tokens_of_later : Later (List ℕ) → Lexemes
 tokens_of_later (plain.Once x) = tokens_of_test x
-tokens_of_later (plain.Count n x) = codes "count" ∷ in_parentheses (decimal n ∷ codes "," ∷ tokens_of_outermost x)
+tokens_of_later (plain.Count n x) = codes "count" ∷ in_parentheses
+    (decimal n ∷ codes "," ∷ tokens_of_outermost x)
 
 abbrev pub tokens_of_delay : Delay (List ℕ) → Lexemes
 tokens_of_delay (delay.Later p) = tokens_of_later p
@@ -122,20 +124,24 @@ abbrev pub tokens_of_handler : List ℕ → Option (List ℕ) → Lexemes
 tokens_of_handler word = if_there (λ t. word ∷ quoted t ∷ [])
 
 abbrev pub tokens_of_call : AsyncNode (List ℕ) → Lexemes
-tokens_of_call a = codes "call" ∷ a.body.name ∷ in_parentheses (comma_separated (map tokens_of_outermost a.args))
+tokens_of_call a = codes "call" ∷ a.body.name ∷ in_parentheses
+    (comma_separated (map tokens_of_outermost a.args))
 
 abbrev pub tokens_of_handlers : AsyncNode (List ℕ) → Lexemes
-tokens_of_handlers a = tokens_of_handler (codes "kill") a.kill ++ tokens_of_handler (codes "suspend") a.suspend ++ tokens_of_handler (codes "resume") a.resume
+tokens_of_handlers a = tokens_of_handler (codes "kill") a.kill
+    ++ tokens_of_handler (codes "suspend") a.suspend ++ tokens_of_handler (codes "resume") a.resume
 
 abbrev pub tokens_of_async : AsyncNode (List ℕ) → Lexemes
-tokens_of_async a = (codes "async" ∷ if_there tokens_of_answer a.signal) ++ tokens_of_call a ++ tokens_of_handlers a ++ codes ";" ∷ []
+tokens_of_async a = (codes "async" ∷ if_there tokens_of_answer a.signal) ++ tokens_of_call a
+    ++ tokens_of_handlers a ++ codes ";" ∷ []
 
 -- `emit` or `sustain`
 abbrev pub tokens_of_emission : List ℕ → NameAt (List ℕ) → Option (ExprAt (List ℕ)) → Lexemes
 tokens_of_emission word n value = word ∷ n.name ∷ (if_there tokens_of_test value ++ codes ";" ∷ [])
 
 abbrev pub tokens_of_run : NameAt (List ℕ) → List (Binding (List ℕ)) → Lexemes
-tokens_of_run n bindings = codes "run" ∷ n.name ∷ (in_parentheses (comma_separated (map tokens_of_binding bindings)) ++ codes ";" ∷ [])
+tokens_of_run n bindings = codes "run" ∷ n.name ∷ (in_parentheses
+    (comma_separated (map tokens_of_binding bindings)) ++ codes ";" ∷ [])
 
 abbrev pub immediate_word : Bool → Lexemes
 immediate_word immediate = if immediate then codes "immediate" ∷ [] else []
@@ -147,17 +153,21 @@ statement_step s.Pause = codes "pause" ∷ codes ";" ∷ []
 statement_step s.Halt = codes "halt" ∷ codes ";" ∷ []
 statement_step (s.Emit n value) = tokens_of_emission (codes "emit") n value
 statement_step (s.Sustain n value) = tokens_of_emission (codes "sustain") n value
-statement_step (s.If x block other) = codes "if" ∷ (tokens_of_test x ++ block) ++ if_there (λ ts. codes "else" ∷ ts) other
+statement_step (s.If x block other) = codes "if" ∷ (tokens_of_test x ++ block)
+    ++ if_there (λ ts. codes "else" ∷ ts) other
 statement_step (s.Loop block) = codes "loop" ∷ block
 statement_step (s.Fork blocks) = codes "fork" ∷ separated (codes "par") blocks
 statement_step (s.Block block) = block
 statement_step (s.Await d) = codes "await" ∷ (tokens_of_delay d ++ codes ";" ∷ [])
 statement_step (s.Every d block) = codes "every" ∷ (tokens_of_delay d ++ block)
-statement_step (s.DoEvery block p) = (codes "do" ∷ block) ++ (codes "every" ∷ tokens_of_later p) ++ codes ";" ∷ []
+statement_step (s.DoEvery block p) = (codes "do" ∷ block) ++ (codes "every" ∷ tokens_of_later p)
+    ++ codes ";" ∷ []
 statement_step (s.Abort d block) = codes "abort" ∷ (tokens_of_delay d ++ block)
 statement_step (s.WeakAbort d block) = codes "weakabort" ∷ (tokens_of_delay d ++ block)
-statement_step (s.Suspend immediate x block) = codes "suspend" ∷ (immediate_word immediate ++ tokens_of_test x ++ block)
-statement_step (s.Signal signals block) = codes "signal" ∷ (comma_separated (map tokens_of_signal signals) ++ block)
+statement_step (s.Suspend immediate x block) = codes "suspend" ∷
+    (immediate_word immediate ++ tokens_of_test x ++ block)
+statement_step (s.Signal signals block) = codes "signal" ∷ (comma_separated (map tokens_of_signal signals)
+    ++ block)
 statement_step (s.Trap n block) = codes "trap" ∷ n ∷ block
 statement_step (s.Break n) = codes "break" ∷ n.name ∷ codes ";" ∷ []
 statement_step (s.Run n bindings) = tokens_of_run n bindings
@@ -180,13 +190,16 @@ abbrev pub tokens_of_heading : List ℕ → List ℕ → List Lexemes → Lexeme
 tokens_of_heading word name items = word ∷ name ∷ in_parentheses (comma_separated items)
 
 abbrev pub tokens_of_body : BodyNode (List ℕ) → Lexemes
-tokens_of_body b = tokens_of_heading (codes "body") b.name (map tokens_of_parameter b.parameters) ++ (codes ":" ∷ token_of_kind b.answer ∷ []) ++ codes "{" ∷ (tokens_of_outermost b.expr ++ codes "}" ∷ [])
+tokens_of_body b = tokens_of_heading (codes "body") b.name (map tokens_of_parameter b.parameters)
+    ++ (codes ":" ∷ token_of_kind b.answer ∷ []) ++ codes "{" ∷ (tokens_of_outermost b.expr ++ codes "}" ∷ [])
 
 abbrev pub tokens_of_host : HostNode → Lexemes
-tokens_of_host h = tokens_of_heading (codes "host") h.name (map tokens_of_kind h.parameters) ++ (codes ":" ∷ token_of_kind h.answer ∷ []) ++ codes ";" ∷ []
+tokens_of_host h = tokens_of_heading (codes "host") h.name (map tokens_of_kind h.parameters)
+    ++ (codes ":" ∷ token_of_kind h.answer ∷ []) ++ codes ";" ∷ []
 
 abbrev pub tokens_of_module : ModuleNode (List ℕ) → Lexemes
-tokens_of_module m = tokens_of_heading (codes "module") m.name (map tokens_of_interface m.interface) ++ tokens_of_block m.block
+tokens_of_module m = tokens_of_heading (codes "module") m.name (map tokens_of_interface m.interface)
+    ++ tokens_of_block m.block
 
 abbrev pub tokens_of_part : Part (List ℕ) → Lexemes
 tokens_of_part (top.Body b) = tokens_of_body b

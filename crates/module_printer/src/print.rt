@@ -1,9 +1,9 @@
 //! Printing a tree as a module text.
 
-ghost use Rattle.std.specs.Prelude.{◌≡◌, ◌∷◌, ◌++◌, [], codes, map, IfOk, OnOk};
+ghost use Rattle.std.specs.Prelude.{◌≡◌, ◌∷◌, ◌++◌, [], codes, map, IfOk};
 ghost use Rattle.module_printer.specs.ExpressionTokens.{in_parentheses};
 ghost use Rattle.module_printer.specs.SourceTokens.{comma_separated, tokens_of_outermost, tokens_of_body, tokens_of_host, tokens_of_module, tokens_of_part};
-ghost use Rattle.module_printer.specs.Printed.{spaced, line_of, printed};
+ghost use Rattle.module_printer.specs.Printed.{spaced, line_of, printed, Appends, Writes};
 
 mod declarations;
 mod expressions;
@@ -12,7 +12,7 @@ mod statements;
 #[cfg(test)]
 mod tests;
 
-use crate::print::printer::{Printer, Printable};
+use crate::print::printer::{Printable, Printer};
 use hh_base::memory::NoMemory;
 use hh_base::name::Name;
 use module_tree::source::{BodyNode, ExprAt, HostNode, ModuleNode, Modules, Part};
@@ -20,8 +20,14 @@ use std::alloc::Global;
 
 impl Printer {
     /// Begins a line with the word of a declaration, its name and its list.
-    fn heading<T: Printable>(&mut self, word: &str, name: &Name, items: &[T]) -> Result<(), NoMemory>
-        ensures { OnOk result (self.new ≡ self.old ++ word.now ++ spaced (name.now ∷ in_parentheses (comma_separated (map T.tokens items.now)))) }
+    fn heading<T: Printable>(
+        &mut self,
+        word: &str,
+        name: &Name,
+        items: &[T],
+    ) -> Result<(), NoMemory>
+        ensures { Appends result self.old self.new
+            (word.now ++ spaced (name.now ∷ in_parentheses (comma_separated (map T.tokens items.now)))) }
     {
         self.begin_line(word)?;
         self.token(name.as_str())?;
@@ -29,7 +35,8 @@ impl Printer {
     }
 
     fn braced(&mut self, expr: &ExprAt<Name>) -> Result<(), NoMemory>
-        ensures { OnOk result (self.new ≡ self.old ++ spaced (codes "{" ∷ (tokens_of_outermost expr.now ++ codes "}" ∷ []))) }
+        ensures { Writes result self.old self.new
+            (codes "{" ∷ (tokens_of_outermost expr.now ++ codes "}" ∷ [])) }
     {
         self.token("{")?;
         self.expression(&expr.expr)?;
@@ -37,7 +44,7 @@ impl Printer {
     }
 
     fn body(&mut self, body: &BodyNode<Name>) -> Result<(), NoMemory>
-        ensures { OnOk result (self.new ≡ self.old ++ line_of (tokens_of_body body.now)) }
+        ensures { Appends result self.old self.new (line_of (tokens_of_body body.now)) }
     {
         self.heading("body", &body.name, body.parameters.as_slice())?;
         self.typed(body.answer)?;
@@ -46,7 +53,7 @@ impl Printer {
     }
 
     fn host(&mut self, host: &HostNode) -> Result<(), NoMemory>
-        ensures { OnOk result (self.new ≡ self.old ++ line_of (tokens_of_host host.now)) }
+        ensures { Appends result self.old self.new (line_of (tokens_of_host host.now)) }
     {
         self.heading("host", &host.name, host.parameters.as_slice())?;
         self.typed(host.answer)?;
@@ -55,7 +62,7 @@ impl Printer {
     }
 
     fn module(&mut self, node: &ModuleNode<Name>) -> Result<(), NoMemory>
-        ensures { OnOk result (self.new ≡ self.old ++ line_of (tokens_of_module node.now)) }
+        ensures { Appends result self.old self.new (line_of (tokens_of_module node.now)) }
     {
         self.heading("module", &node.name, node.interface.as_slice())?;
         self.block(&node.block)?;
@@ -63,7 +70,7 @@ impl Printer {
     }
 
     fn part(&mut self, part: &Part<Name>) -> Result<(), NoMemory>
-        ensures { OnOk result (self.new ≡ self.old ++ line_of (tokens_of_part part.now)) }
+        ensures { Appends result self.old self.new (line_of (tokens_of_part part.now)) }
     {
         match part {
             Part::Body(body) => self.body(body),
@@ -73,7 +80,7 @@ impl Printer {
     }
 
     fn parts(&mut self, parts: &[Part<Name>]) -> Result<(), NoMemory>
-        ensures { OnOk result (self.new ≡ self.old ++ printed parts.now) }
+        ensures { Appends result self.old self.new (printed parts.now) }
     {
         for part in parts {
             self.part(part)?;

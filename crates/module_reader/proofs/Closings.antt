@@ -1,19 +1,33 @@
--- Where a bracket is not closed behind what was read in it, its rule refuses there.
-use Rattle.std.proofs.Common.{◌≡◌, ◌≢◌, ℕ, ◌-◌, List, Some, Ok, Err, refl, ◌∙◌}
+-- What stands in curly brackets, by the step that opens one.
+use Rattle.std.proofs.Common.{◌≡◌, ℕ, zero, suc, List, Ok, Err, refl}
 use Rattle.module_token.specs.declared.punct.Punct.TheVariants as k
+use Rattle.module_tree.specs.declared.source.BlockNode.{BlockNode}
 use Rattle.module_tree.specs.declared.source.StatementNode.{StatementNode}
-use Rattle.grammar.specs.Fault.{Refusal}
-use Rattle.grammar.specs.Parser.{Unread, many, opened}
-use Rattle.grammar.proofs.Steps.{room_left}
-use Rattle.expression_reader.specs.declared.fault.StepError.{StepError}
+use Rattle.grammar.specs.Parser.{Unread, Parsed, ◌>>=◌, ◌>>◌, pure, and_then, many, opening, opened}
 use Rattle.expression_reader.specs.declared.terminal.Terminal.{Terminal}
 use Rattle.expression_reader.specs.Terminals.{is_in_curly}
 use Rattle.expression_reader.specs.Trees.{Name}
-use Rattle.expression_reader.specs.Refusals.{as_refusal}
-use Rattle.expression_reader.specs.Reference.{punct}
-use Rattle.module_reader.specs.Reference.{statement, block}
+use Rattle.expression_reader.specs.Reference.{Parser, punct}
+use Rattle.module_reader.specs.Trees.{block_at}
+use Rattle.module_reader.specs.Reference.{statement, block_with, block}
 
-pub block_open : (room : ℕ) (i j h : Unread Terminal) (n : ℕ) (xs : List (StatementNode Name)) (e : StepError) → room ≢ 0 → punct k.LeftBrace i ≡ Ok (n, j) → many is_in_curly (statement (block (room - 1)) (room - 1)) j ≡ Ok (xs, h)
-    → ((r : Refusal) → as_refusal e ≡ Some r → punct k.RightBrace h ≡ Err r) → (r : Refusal) → as_refusal e ≡ Some r → block room i ≡ Err r
-unfolding block opened
-block_open room i j h n xs e some x y z r s = room_left (λ m. block m i) room some ∙ rw (x, y, z r s) refl
+-- statements, and the bracket that closes
+closed_behind : Parser (StatementNode Name) → ℕ → Parser (BlockNode Name)
+closed_behind inner place = do
+  xs ← many is_in_curly inner
+  punct k.RightBrace
+  pure (block_at place xs)
+
+by_bracket : (room : ℕ) (o : Parsed Terminal ℕ)
+    → and_then (and_then {A = ℕ} {B = ℕ × ℕ} o (λ place. pure (place, room)))
+    (λ bracket. closed_behind (statement (block room) room) bracket.0)
+    ≡ and_then (and_then {A = ℕ} {B = ℕ × ℕ} o (λ place. pure (place, room)))
+    (λ bracket. closed_behind (statement (block bracket.1) bracket.1) bracket.0)
+by_bracket room (Ok q) = refl
+by_bracket room (Err e) = refl
+
+pub block_opened : (room : ℕ) (i : Unread Terminal) → block room i
+    ≡ block_with (λ left. statement (block left) left) room i
+unfolding block block_with opened opening closed_behind
+block_opened zero i = refl
+block_opened (suc room) i = by_bracket room (punct k.LeftBrace i)

@@ -32,8 +32,10 @@ begins_delay a = is_keyword w.Immediate a || begins_plain a
 
 sample_times : (room : ℕ) → Sample (g.times room)
 sample_times room =
-    let one : Sample (eg.number 1 64) = (good_number {v = outer_level symbols} {x = 1} {n = 0} 1 64 (OutOfRange 1 64) (refl, refl) refl).sample (omega arith) in
-    sample_seq (eg.number 1 64) one (λ m. sample_seq (eg.punct k.Comma) (sample_token (t.Punct k.Comma)) (λ c. sample_seq (eg.outermost room) (sample_outermost room) (λ a. sample_pure (m.1, a))))
+    let one : Sample (eg.number 1 64) = (good_number {v = outer_level symbols} {x = 1} {n = 0} 1 64
+    (OutOfRange 1 64) (refl, refl) refl).sample (omega arith) in
+    sample_seq (eg.number 1 64) one (λ m. sample_seq (eg.punct k.Comma) (sample_token (t.Punct k.Comma))
+    (λ c. sample_seq (eg.outermost room) (sample_outermost room) (λ a. sample_pure (m.1, a))))
 
 module _ (n x : ℕ) where
   good_once : Out x n (p.once n) (g.once (deeper n x)) false (is_punct k.LeftParen) never
@@ -42,12 +44,15 @@ module _ (n x : ℕ) where
 
   good_times : Out x n (p.times n) (g.times (deeper n x)) false is_number behind_expression
   unfolding p.times
-  good_times = good_then (good_number 1 64 (OutOfRange 1 64) (refl, refl) refl) (λ m. good_then (good_punct k.Comma refl) (λ c. good_then (good_outermost n x) (λ a. good_pure (m.1, a) behind_expression) refl) refl) refl
+  good_times = good_then (good_number 1 64 (OutOfRange 1 64) (refl, refl) refl)
+      (λ m. good_then (good_punct k.Comma refl) (λ c. good_then (good_outermost n x)
+      (λ a. good_pure (m.1, a) behind_expression) refl) refl) refl
 
 module _ (n x : ℕ) where
   good_count : Out x n (p.count n) (g.count (deeper n x)) false (is_keyword w.Count) never
   unfolding p.count
-  good_count = good_then (good_keyword w.Count) (λ m. good_made (λ c. plain.Count c.0 c.1) (good_in_round n x sample_times (λ left. good_times left x) refl)) refl
+  good_count = good_then (good_keyword w.Count) (λ m. good_made (λ c. plain.Count c.0 c.1)
+      (good_in_round n x sample_times (λ left. good_times left x) refl)) refl
 
   pub good_later : Out x n (p.later n) (g.later (deeper n x)) false begins_plain never
   unfolding p.later
@@ -59,7 +64,8 @@ module _ (n x : ℕ) where
 
   good_immediate : Out x n (p.immediate n) (g.immediate (deeper n x)) false (is_keyword w.Immediate) never
   unfolding p.immediate
-  good_immediate = good_then (good_keyword w.Immediate) (λ m. good_made (λ a. delay.Immediate a) (good_test n x)) refl
+  good_immediate = good_then (good_keyword w.Immediate) (λ m. good_made (λ a. delay.Immediate a)
+      (good_test n x)) refl
 
   pub good_delay : Out x n (p.delay n) (g.delay (deeper n x)) false begins_delay never
   unfolding p.delay

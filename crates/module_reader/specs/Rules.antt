@@ -1,5 +1,5 @@
--- The grammar of the module text: each rule stands over what it says. The number `room` says how many brackets may still be opened. This project's own, after
--- HipHop.js.
+-- The grammar of the module text: each production stands over its rule, in the notation of docs/LANGUAGE.md.
+-- The number `room` says how many brackets may still be opened. This project's own, after HipHop.js.
 use Rattle.std.specs.Prelude.{◌≡◌, ℕ, zero, suc, ◌^◌, pos, neg_ℤ, Bool, true, false, List, ◌∷◌, Option}
 use Rattle.hh_base.specs.declared.value.Kind.{Kind}
 use Rattle.hh_base.specs.declared.value.Kind.TheVariants as kinds
@@ -12,6 +12,7 @@ use Rattle.hh_base.specs.declared.keyword.Keyword.TheVariants as word
 use Rattle.module_token.specs.declared.punct.Punct.TheVariants as mark
 use Rattle.hh_base.specs.declared.value.Dir.{Dir}
 use Rattle.hh_base.specs.declared.value.Dir.TheVariants as dir
+use Rattle.module_tree.specs.declared.limits.TheConstants.{COUNT_LIMIT}
 use Rattle.module_tree.specs.declared.source.NameAt.{NameAt}
 use Rattle.module_tree.specs.declared.source.ExprAt.{ExprAt}
 use Rattle.module_tree.specs.declared.source.ParameterNode.{ParameterNode}
@@ -38,96 +39,116 @@ use Rattle.module_reader.specs.Trees.{statement_at, block_at, nested, has_module
 
 -- ---- declarations
 
+-- the word, and the kind that it names
 abbrev pub kind_by : Keyword → Kind → Lang Kind
 kind_by name what = do
   keyword name
   pure what
 
--- valued = "int" | "bool" | "text"
+-- valued : "int" | "bool" | "text"
 abbrev pub valued : Lang Kind
 valued = kind_by word.Int kinds.Int or kind_by word.Bool kinds.Bool or kind_by word.Text kinds.Text
 
--- type = "pure" | valued
+-- kind : "pure" | valued
 abbrev pub kind : Lang Kind
 kind = kind_by word.Pure kinds.Pure or valued
 
+-- "true" | "false", by the word
 abbrev pub literal_by : Keyword → Bool → Lang Value
 literal_by name truth = do
   keyword name
   pure (value.Bool truth)
 
+-- TEXT
 abbrev pub literal_text : Lang Value
 literal_text = do
   written ← quoted
   pure (value.Text written.1)
 
+-- NUMBER
 abbrev pub literal_number : Lang Value
 literal_number = do
   written ← number 0 largest
   pure (value.Int (pos written.1))
 
+-- "-" NUMBER
 abbrev pub literal_negative : Lang Value
 literal_negative = do
   punct mark.Minus
   written ← number 0 (2 ^ 63)
   pure (value.Int (neg_ℤ (pos written.1)))
 
--- literal = "true" | "false" | quoted | number | "-" number
+-- literal : "true" | "false" | TEXT | NUMBER | "-" NUMBER
 abbrev pub literal : Lang Value
-literal = literal_by word.True true or literal_by word.False false or literal_text or literal_number or literal_negative
+literal =
+    literal_by word.True true or literal_by word.False false or literal_text
+    or literal_number or literal_negative
 
+-- ":" kind
 abbrev pub behind_colon : Lang Kind
 behind_colon = do
   punct mark.Colon
   kind
 
+-- "=" literal
 abbrev pub behind_equal : Lang Value
 behind_equal = do
   punct mark.Equal
   literal
 
+-- the word, and how it combines
 abbrev pub combine_by : Terminal → CombineWord → Lang CombineWord
 combine_by name what = do
   language.token name
   pure what
 
--- combine = "plus" | "min" | "max" | "and" | "or"
+-- combiner : "plus" | "min" | "max" | "and" | "or"
 abbrev pub combine_word : Lang CombineWord
 combine_word =
-    combine_by terminal.Plus combine.Plus or combine_by terminal.Min combine.Min or combine_by terminal.Max combine.Max or combine_by terminal.And combine.And
+    combine_by terminal.Plus combine.Plus or combine_by terminal.Min combine.Min
+    or combine_by terminal.Max combine.Max or combine_by terminal.And combine.And
     or combine_by terminal.Or combine.Or
 
+-- "combine" combiner
 abbrev pub behind_combine : Lang CombineWord
 behind_combine = do
   keyword word.Combine
   combine_word
 
--- sig = name [ ":" type ] [ "=" literal ] [ "combine" combine ]
--- A signal without a type is pure.
+-- signal : NAME (":" kind)? ("=" literal)? ("combine" combiner)?
+-- A signal without a kind is pure.
 abbrev pub signal : Lang SignalNode
 signal = do
   declared ← name
   typed ← behind_colon or pure kinds.Pure
   first ← optional behind_equal
   combined ← optional behind_combine
-  pure (record { pos = pos_at declared.0; name = declared.1; kind = typed; first = first; combine = combined })
+  pure (record {
+    pos = pos_at declared.0;
+    name = declared.1;
+    kind = typed;
+    first = first;
+    combine = combined;
+  })
 
+-- the word, and the direction that it names
 abbrev pub dir_by : Keyword → Dir → Lang Dir
 dir_by name what = do
   keyword name
   pure what
 
+-- "in" | "out" | "inout"
 abbrev pub direction : Lang Dir
 direction = dir_by word.In dir.Input or dir_by word.Out dir.Output or dir_by word.Inout dir.Both
 
--- decl = ( "in" | "out" | "inout" ) sig
+-- interface : ("in" | "out" | "inout") signal
 abbrev pub interface : Lang InterfaceNode
 interface = do
   way ← direction
   signal ← signal
   pure (record { dir = way; signal = signal })
 
--- param = name ":" valued
+-- parameter : NAME ":" valued
 abbrev pub parameter : Lang ParameterNode
 parameter = do
   declared ← name
@@ -137,55 +158,58 @@ parameter = do
 
 -- ---- delays
 
--- once = "(" expr ")"
+-- test
 abbrev pub once : ℕ → Lang (Later Name)
 once room = do
   test ← test room
   pure (laters.Once test)
 
+-- NUMBER "," expression
 abbrev pub times : ℕ → Lang (ℕ × ExprAt Name)
 times room = do
-  written ← number 1 64
+  written ← number 1 COUNT_LIMIT
   punct mark.Comma
   test ← outermost room
   pure (written.1, test)
 
--- count = "count" "(" number "," expr ")"
+-- "count" "(" NUMBER "," expression ")"
 abbrev pub count : ℕ → Lang (Later Name)
 count room = do
   keyword word.Count
   counted ← in_round times room
   pure (laters.Count counted.0 counted.1)
 
--- plain = once | count
+-- later : test | "count" "(" NUMBER "," expression ")"
 abbrev pub later : ℕ → Lang (Later Name)
 later room = once room or count room
 
+-- later
 abbrev pub later_delay : ℕ → Lang (Delay Name)
 later_delay room = do
   waited ← later room
   pure (delays.Later waited)
 
+-- "immediate" test
 abbrev pub immediate : ℕ → Lang (Delay Name)
 immediate room = do
   keyword word.Immediate
   test ← test room
   pure (delays.Immediate test)
 
--- delay = plain | "immediate" "(" expr ")"
+-- delay : "immediate" test | later
 abbrev pub delay : ℕ → Lang (Delay Name)
 delay room = immediate room or later_delay room
 
 -- ---- statements, by their blocks
 
--- "nothing" ";" | "pause" ";" | "halt" ";"
+-- "nothing" ";" | "pause" ";" | "halt" ";", by the word
 abbrev pub simple : Keyword → Statement Name → Lang (StatementNode Name)
 simple name what = do
   place ← keyword name
   punct mark.Semicolon
   pure (statement_at place what)
 
--- name [ "(" expr ")" ] ";"
+-- NAME value? ";"
 abbrev pub emission : ℕ → Lang (NameAt Name × Option (ExprAt Name))
 emission room = do
   signal ← named
@@ -193,26 +217,27 @@ emission room = do
   punct mark.Semicolon
   pure (signal, emitted)
 
--- "emit" name [ "(" expr ")" ] ";"
+-- "emit" NAME value? ";"
 abbrev pub emit : ℕ → Lang (StatementNode Name)
 emit room = do
   place ← keyword word.Emit
   emitted ← emission room
   pure (statement_at place (node.Emit emitted.0 emitted.1))
 
--- "sustain" name [ "(" expr ")" ] ";"
+-- "sustain" NAME value? ";"
 abbrev pub sustain : ℕ → Lang (StatementNode Name)
 sustain room = do
   place ← keyword word.Sustain
   emitted ← emission room
   pure (statement_at place (node.Sustain emitted.0 emitted.1))
 
+-- "else" block
 abbrev pub behind_else : Lang (BlockNode Name) → Lang (BlockNode Name)
 behind_else block = do
   keyword word.Else
   block
 
--- "if" "(" expr ")" block [ "else" block ]
+-- "if" test block ("else" block)?
 abbrev pub if_else : Lang (BlockNode Name) → ℕ → Lang (StatementNode Name)
 if_else block room = do
   place ← keyword word.If
@@ -228,26 +253,27 @@ loop block = do
   repeated ← block
   pure (statement_at place (node.Loop repeated))
 
+-- "par" block
 abbrev pub behind_par : Lang (BlockNode Name) → Lang (BlockNode Name)
 behind_par block = do
   keyword word.Par
   block
 
--- block { "par" block }
+-- block ("par" block)*
 abbrev pub par_blocks : Lang (BlockNode Name) → Lang (List (BlockNode Name))
 par_blocks block = do
   first ← block
   others ← many (behind_par block)
   pure (first ∷ others)
 
--- "fork" block { "par" block }
+-- "fork" block ("par" block)*
 abbrev pub fork : Lang (BlockNode Name) → Lang (StatementNode Name)
 fork block = do
   place ← keyword word.Fork
   branches ← par_blocks block
   pure (statement_at place (node.Fork branches))
 
--- a block that is a statement
+-- block
 abbrev pub nested_block : Lang (BlockNode Name) → Lang (StatementNode Name)
 nested_block block = do
   inner ← block
@@ -269,7 +295,7 @@ every block room = do
   repeated ← block
   pure (statement_at place (node.Every waited repeated))
 
--- "do" block "every" plain ";"
+-- "do" block "every" later ";"
 abbrev pub do_every : Lang (BlockNode Name) → ℕ → Lang (StatementNode Name)
 do_every block room = do
   place ← keyword word.Do
@@ -295,10 +321,11 @@ weak_abort block room = do
   aborted ← block
   pure (statement_at place (node.WeakAbort waited aborted))
 
+-- "immediate"?
 abbrev pub has_immediate : Lang Bool
 has_immediate = (do keyword word.Immediate; pure true) or pure false
 
--- "suspend" [ "immediate" ] "(" expr ")" block
+-- "suspend" "immediate"? test block
 abbrev pub suspend : Lang (BlockNode Name) → ℕ → Lang (StatementNode Name)
 suspend block room = do
   place ← keyword word.Suspend
@@ -307,7 +334,7 @@ suspend block room = do
   suspended ← block
   pure (statement_at place (node.Suspend at_once test suspended))
 
--- "signal" sig { "," sig } block
+-- "signal" list(signal) block
 abbrev pub local : Lang (BlockNode Name) → Lang (StatementNode Name)
 local block = do
   place ← keyword word.Signal
@@ -315,7 +342,7 @@ local block = do
   scope ← block
   pure (statement_at place (node.Signal signals scope))
 
--- "trap" name block
+-- "trap" NAME block
 abbrev pub trap : Lang (BlockNode Name) → Lang (StatementNode Name)
 trap block = do
   place ← keyword word.Trap
@@ -323,7 +350,7 @@ trap block = do
   scope ← block
   pure (statement_at place (node.Trap declared.1 scope))
 
--- "break" name ";"
+-- "break" NAME ";"
 abbrev pub break_out : Lang (StatementNode Name)
 break_out = do
   place ← keyword word.Break
@@ -331,7 +358,7 @@ break_out = do
   punct mark.Semicolon
   pure (statement_at place (node.Break left))
 
--- name "=" name
+-- binding : NAME "=" NAME
 abbrev pub binding : Lang (Binding Name)
 binding = do
   inner ← named
@@ -339,10 +366,11 @@ binding = do
   outer ← named
   pure (record { left = inner; right = outer })
 
+-- list(binding)?
 abbrev pub bindings : ℕ → Lang (List (Binding Name))
 bindings left = listed_or_none binding
 
--- "run" name "(" [ name "=" name { "," name "=" name } ] ")" ";"
+-- "run" NAME "(" list(binding)? ")" ";"
 abbrev pub run : ℕ → Lang (StatementNode Name)
 run room = do
   place ← keyword word.Run
@@ -351,16 +379,19 @@ run room = do
   punct mark.Semicolon
   pure (statement_at place (node.Run called bound))
 
+-- NAME
 abbrev pub result : ℕ → Lang (NameAt Name)
 result left = named
 
+-- "kill" TEXT | "suspend" TEXT | "resume" TEXT, by the word
 abbrev pub handler : Keyword → Lang Name
 handler name = do
   keyword name
   written ← quoted
   pure written.1
 
--- "async" [ "(" name ")" ] "call" name "(" [ expr { "," expr } ] ")" [ "kill" quoted ] [ "suspend" quoted ] [ "resume" quoted ] ";"
+-- "async" ("(" NAME ")")? "call" NAME "(" list(expression)? ")"
+--   ("kill" TEXT)? ("suspend" TEXT)? ("resume" TEXT)? ";"
 abbrev pub async : ℕ → Lang (StatementNode Name)
 async room = do
   place ← keyword word.Async
@@ -372,8 +403,17 @@ async room = do
   suspended ← optional (handler word.Suspend)
   resumed ← optional (handler word.Resume)
   punct mark.Semicolon
-  pure (statement_at place (node.Async (record { signal = signal; body = called; args = given; kill = killed; suspend = suspended; resume = resumed })))
+  pure (statement_at place
+      (node.Async (record {
+        signal = signal;
+        body = called;
+        args = given;
+        kill = killed;
+        suspend = suspended;
+        resume = resumed;
+      })))
 
+-- statement : one of these
 abbrev pub statement : Lang (BlockNode Name) → ℕ → Lang (StatementNode Name)
 statement block room =
     simple word.Nothing node.Nothing or simple word.Pause node.Pause or simple word.Halt node.Halt
@@ -388,14 +428,15 @@ statement block room =
     or run room or async room
     or nested_block block
 
--- block = "{" { statement } "}"
+-- block : "{" statement* "}"
 abbrev pub block : ℕ → Lang (BlockNode Name)
 block zero = nothing
-block (suc room) = language.opened (suc room) (terminal.Punct mark.LeftBrace) (λ left place. do statements ← many (statement (block room) room); punct mark.RightBrace; pure (block_at place statements))
+block (suc room) = language.opened (suc room) (terminal.Punct mark.LeftBrace)
+    (λ left place. do inner ← many (statement (block room) room); punct mark.RightBrace; pure (block_at place inner))
 
 -- ---- texts. No bracket is open before the lists of their declarations, so there is always room for one.
 
--- body = "body" name "(" [ param { "," param } ] ")" ":" valued "{" expr "}"
+-- body : "body" NAME "(" list(parameter)? ")" ":" valued "{" expression "}"
 abbrev pub body : ℕ → Lang (Part Name)
 body room = do
   keyword word.Body
@@ -406,9 +447,15 @@ body room = do
   punct mark.Colon
   answer ← valued
   expression ← in_curly outermost room
-  pure (part_of.Body (record { pos = pos_at declared.0; name = declared.1; parameters = parameters; answer = answer; expr = expression }))
+  pure (part_of.Body (record {
+    pos = pos_at declared.0;
+    name = declared.1;
+    parameters = parameters;
+    answer = answer;
+    expr = expression;
+  }))
 
--- host = "host" name "(" [ valued { "," valued } ] ")" ":" type ";"
+-- host : "host" NAME "(" list(valued)? ")" ":" kind ";"
 abbrev pub host : Lang (Part Name)
 host = do
   token ← keyword word.Host
@@ -419,9 +466,15 @@ host = do
   punct mark.Colon
   answer ← kind
   punct mark.Semicolon
-  pure (part_of.Host (record { pos = pos_at declared.0; token = pos_at token; name = declared.1; parameters = parameters; answer = answer }))
+  pure (part_of.Host (record {
+    pos = pos_at declared.0;
+    token = pos_at token;
+    name = declared.1;
+    parameters = parameters;
+    answer = answer;
+  }))
 
--- module = "module" name "(" [ decl { "," decl } ] ")" block
+-- module : "module" NAME "(" list(interface)? ")" block
 abbrev pub module_of : ℕ → Lang (Part Name)
 module_of room = do
   keyword word.Module
@@ -430,16 +483,21 @@ module_of room = do
   interface ← listed_or_none interface
   punct mark.RightParen
   statements ← block room
-  pure (part_of.Module (record { pos = pos_at declared.0; name = declared.1; interface = interface; block = statements }))
+  pure (part_of.Module (record {
+    pos = pos_at declared.0;
+    name = declared.1;
+    interface = interface;
+    block = statements;
+  }))
 
--- body | host | module
+-- part : module | body | host
 abbrev pub part : ℕ → Lang (Part Name)
 part room = body room or host or module_of room
 
--- { body | host | module }
+-- part*, of which none need be a module
 abbrev pub parts : ℕ → Lang (List (Part Name))
 parts room = many (part room)
 
--- text = { body | host } module { body | host | module }
+-- program : part*, of which one at least is a module
 abbrev pub program : ℕ → Lang (List (Part Name))
 program room tree text marks = parts room tree text marks × (has_module tree ≡ true)

@@ -1,4 +1,5 @@
--- How the statements and texts of a source tree are made of what stands in a text. A place is the number of bytes before it. This project's own.
+-- How the statements and texts of a source tree are made of what stands in a text. A place is the number of
+-- bytes before it. This project's own.
 use Rattle.std.specs.Prelude.{ℕ, Bool, List}
 use Rattle.std.specs.List.{list_any}
 use Rattle.module_tree.specs.declared.source.BlockNode.{BlockNode, roll-BlockNode, out-BlockNode}

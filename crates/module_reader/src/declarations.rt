@@ -4,17 +4,13 @@ ghost use Rattle.grammar.specs.Parser.{Reads};
 ghost use Rattle.expression_reader.specs.Refusals.{as_refusal};
 ghost use Rattle.module_reader.specs.Reference as rule;
 
-use expression_reader::cursor::Reader;
+use expression_reader::cursor::{LARGEST, Reader};
 use expression_reader::fault::StepError;
 use expression_reader::terminal::Terminal;
-use hh_base::value::{CombineWord, Kind, Pos, Value};
-use hh_base::value::Dir;
-use module_tree::source::{InterfaceNode, ParameterNode, SignalNode};
 use hh_base::keyword::Keyword;
+use hh_base::value::{CombineWord, Dir, Kind, Pos, Value};
 use module_token::punct::Punct;
-
-/// The largest integer.
-const LARGEST: u64 = i64::MAX as u64;
+use module_tree::source::{InterfaceNode, ParameterNode, SignalNode};
 
 /// The number without its sign of the least integer.
 const LEAST: u64 = 1 << 63;

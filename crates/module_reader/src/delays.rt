@@ -8,11 +8,11 @@ ghost use Rattle.module_reader.specs.Reference as rule;
 use crate::lists::read_list_or_none;
 use expression_reader::cursor::Reader;
 use expression_reader::fault::StepError;
+use hh_base::keyword::Keyword;
 use hh_base::name::Name;
 use hh_base::text::Text;
-use module_tree::source::{Binding, Delay, ExprAt, NameAt, Later};
-use hh_base::keyword::Keyword;
 use module_token::punct::Punct;
+use module_tree::source::{Binding, Delay, ExprAt, Later, NameAt};
 use sqlite_items::Items;
 
 // ---- delays
@@ -22,13 +22,10 @@ use sqlite_items::Items;
 fn read_counted_times(reader: &mut Reader<'_>, room: u8) -> Result<(u8, ExprAt<Name>), StepError>
     ensures { Reads as_refusal (part.in_round rule.times room reader.old) result reader.new }
 {
-    if room == 0 {
-        return Err(reader.too_deep(Punct::LeftParen));
-    }
-    reader.punct(Punct::LeftParen)?;
+    let (_, left) = reader.open(Punct::LeftParen, room)?;
     let (_, times) = reader.times()?;
     reader.punct(Punct::Comma)?;
-    let expr = reader.outermost(room - 1)?;
+    let expr = reader.outermost(left)?;
     reader.punct(Punct::RightParen)?;
     Ok((times, expr))
 }
@@ -145,10 +142,7 @@ pub(crate) fn read_run_bindings(
 ) -> Result<Items<Binding<Name>>, StepError>
     ensures { Reads as_refusal (part.in_round rule.bindings room reader.old) result reader.new }
 {
-    if room == 0 {
-        return Err(reader.too_deep(Punct::LeftParen));
-    }
-    reader.punct(Punct::LeftParen)?;
+    reader.open(Punct::LeftParen, room)?;
     let list = read_list_or_none(reader)?;
     reader.punct(Punct::RightParen)?;
     Ok(list)
@@ -158,10 +152,7 @@ pub(crate) fn read_run_bindings(
 fn read_name_in_round(reader: &mut Reader<'_>, room: u8) -> Result<NameAt<Name>, StepError>
     ensures { Reads as_refusal (part.in_round rule.result room reader.old) result reader.new }
 {
-    if room == 0 {
-        return Err(reader.too_deep(Punct::LeftParen));
-    }
-    reader.punct(Punct::LeftParen)?;
+    reader.open(Punct::LeftParen, room)?;
     let name = reader.name_at()?;
     reader.punct(Punct::RightParen)?;
     Ok(name)
@@ -183,7 +174,10 @@ pub(crate) fn read_async_signal(
 
 /// The text of a handler, where there is one.
 #[tactic(auto, unfolding(crate::specs::Reference::handled))]
-pub(crate) fn read_handler(reader: &mut Reader<'_>, word: Keyword) -> Result<Option<Text>, StepError>
+pub(crate) fn read_handler(
+    reader: &mut Reader<'_>,
+    word: Keyword,
+) -> Result<Option<Text>, StepError>
     ensures { Reads as_refusal (rule.handled word reader.old) result reader.new }
 {
     if !reader.sees_keyword(word) {

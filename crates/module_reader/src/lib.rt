@@ -5,8 +5,8 @@ mod declarations;
 mod delays;
 pub mod fault;
 mod lists;
+mod parts;
 pub mod read;
 mod statements;
 #[cfg(test)]
 mod tests;
-mod parts;

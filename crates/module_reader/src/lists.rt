@@ -12,8 +12,8 @@ use expression_reader::cursor::Reader;
 use expression_reader::fault::StepError;
 use hh_base::name::Name;
 use hh_base::value::Kind;
-use module_tree::source::{Binding, InterfaceNode, ParameterNode, SignalNode};
 use module_token::punct::Punct;
+use module_tree::source::{Binding, InterfaceNode, ParameterNode, SignalNode};
 use sqlite_items::Items;
 
 /// What stands between the commas of a list.

@@ -12,33 +12,28 @@ use crate::lists::read_list_or_none;
 use crate::statements::read_block;
 use expression_reader::cursor::Reader;
 use expression_reader::fault::StepError;
+use hh_base::keyword::Keyword;
 use hh_base::name::Name;
 use hh_base::value::Pos;
-use module_tree::source::{BodyNode, ExprAt, HostNode, ModuleNode, Part};
-use hh_base::keyword::Keyword;
 use module_token::punct::Punct;
+use module_tree::limits::OPEN_LIMIT;
+use module_tree::source::{BodyNode, ExprAt, HostNode, ModuleNode, Part};
 use sqlite_items::Items;
-
-/// The most brackets that are open at once.
-const MOST_OPEN: u8 = 128;
 
 /// An outermost expression in curly brackets.
 #[tactic(auto, unfolding(expression_reader::specs::Reference::in_curly, grammar::specs::Parser::opened))]
 fn read_in_curly(reader: &mut Reader<'_>, room: u8) -> Result<ExprAt<Name>, StepError>
     ensures { Reads as_refusal (part.in_curly part.outermost room reader.old) result reader.new }
 {
-    if room == 0 {
-        return Err(reader.too_deep(Punct::LeftBrace));
-    }
-    reader.punct(Punct::LeftBrace)?;
-    let expr = reader.outermost(room - 1)?;
+    let (_, left) = reader.open(Punct::LeftBrace, room)?;
+    let expr = reader.outermost(left)?;
     reader.punct(Punct::RightBrace)?;
     Ok(expr)
 }
 
 #[tactic(auto, unfolding(crate::specs::Reference::body))]
 fn read_body(reader: &mut Reader<'_>) -> Result<Part<Name>, StepError>
-    ensures { Reads as_refusal (rule.body 128 reader.old) result reader.new }
+    ensures { Reads as_refusal (rule.body OPEN_LIMIT reader.old) result reader.new }
 {
     reader.keyword(Keyword::Body)?;
     let (pos, name) = reader.name()?;
@@ -47,7 +42,7 @@ fn read_body(reader: &mut Reader<'_>) -> Result<Part<Name>, StepError>
     reader.punct(Punct::RightParen)?;
     reader.punct(Punct::Colon)?;
     let answer = read_valued(reader)?;
-    let expr = read_in_curly(reader, MOST_OPEN)?;
+    let expr = read_in_curly(reader, OPEN_LIMIT)?;
     Ok(Part::Body(BodyNode {
         pos: Pos(pos),
         name,
@@ -80,14 +75,14 @@ fn read_host(reader: &mut Reader<'_>) -> Result<Part<Name>, StepError>
 
 #[tactic(auto, unfolding(crate::specs::Reference::module_of))]
 fn read_module(reader: &mut Reader<'_>) -> Result<Part<Name>, StepError>
-    ensures { Reads as_refusal (rule.module_of 128 reader.old) result reader.new }
+    ensures { Reads as_refusal (rule.module_of OPEN_LIMIT reader.old) result reader.new }
 {
     reader.keyword(Keyword::Module)?;
     let (pos, name) = reader.name()?;
     reader.punct(Punct::LeftParen)?;
     let interface = read_list_or_none(reader)?;
     reader.punct(Punct::RightParen)?;
-    let block = read_block(reader, MOST_OPEN)?;
+    let block = read_block(reader, OPEN_LIMIT)?;
     Ok(Part::Module(ModuleNode {
         pos: Pos(pos),
         name,
@@ -98,7 +93,7 @@ fn read_module(reader: &mut Reader<'_>) -> Result<Part<Name>, StepError>
 
 #[tactic(auto, unfolding(crate::specs::Reference::part))]
 fn read_part(reader: &mut Reader<'_>) -> Result<Part<Name>, StepError>
-    ensures { Reads as_refusal (rule.part 128 reader.old) result reader.new }
+    ensures { Reads as_refusal (rule.part OPEN_LIMIT reader.old) result reader.new }
 {
     if reader.sees_keyword(Keyword::Body) {
         return read_body(reader);
@@ -120,7 +115,7 @@ fn sees_part(reader: &Reader<'_>) -> bool
 
 #[tactic(auto, unfolding(crate::specs::Reference::parts))]
 fn read_parts(reader: &mut Reader<'_>) -> Result<Items<Part<Name>>, StepError>
-    ensures { Reads as_refusal (rule.parts 128 reader.old) result reader.new }
+    ensures { Reads as_refusal (rule.parts OPEN_LIMIT reader.old) result reader.new }
 {
     let mut list = reader.empty_list();
     'each: while sees_part(reader) {
@@ -132,7 +127,7 @@ fn read_parts(reader: &mut Reader<'_>) -> Result<Items<Part<Name>>, StepError>
 
 /// All of the text.
 pub(crate) fn read_whole(reader: &mut Reader<'_>) -> Result<Items<Part<Name>>, StepError>
-    ensures { Reads as_refusal (parser.whole (rule.parts 128) reader.old) result reader.new }
+    ensures { Reads as_refusal (parser.whole (rule.parts OPEN_LIMIT) reader.old) result reader.new }
 {
     let parts = read_parts(reader)?;
     reader.finish()?;

@@ -9,18 +9,18 @@ ghost use Rattle.module_reader.specs.Trees as tree;
 ghost use Rattle.module_reader.specs.Reference as rule;
 
 use crate::delays::{
-    read_delay, read_async_signal, read_emission, read_handler, read_later,
-    read_run_bindings, read_whether_immediate,
+    read_async_signal, read_delay, read_emission, read_handler, read_later, read_run_bindings,
+    read_whether_immediate,
 };
 use crate::lists::read_list;
 use expression_reader::cursor::Reader;
 use expression_reader::fault::StepError;
 use expression_reader::terminal::Terminal;
+use hh_base::keyword::Keyword;
 use hh_base::name::Name;
 use hh_base::value::Pos;
-use module_tree::source::{AsyncNode, BlockNode, Statement, StatementNode};
-use hh_base::keyword::Keyword;
 use module_token::punct::Punct;
+use module_tree::source::{AsyncNode, BlockNode, Statement, StatementNode};
 use sqlite_items::Items;
 
 /// The statement at this place.
@@ -304,7 +304,9 @@ fn read_statement_by(
     word: Keyword,
     room: u8,
 ) -> Result<StatementNode<Name>, StepError>
-    ensures { Reads as_refusal (rule.statement_by (rule.block room) room (Some (Terminal.Keyword word)) reader.old) result reader.new }
+    ensures { Reads as_refusal
+        (rule.statement_by (rule.block room) room (Some (Terminal.Keyword word)) reader.old)
+        result reader.new }
 {
     match word {
         Keyword::Nothing => read_nothing(reader),
@@ -342,8 +344,12 @@ fn read_statement(reader: &mut Reader<'_>, room: u8) -> Result<StatementNode<Nam
 }
 
 #[cycle(statement)]
-fn read_statements(reader: &mut Reader<'_>, room: u8) -> Result<Items<StatementNode<Name>>, StepError>
-    ensures { Reads as_refusal (parser.many is_in_curly (rule.statement (rule.block room) room) reader.old) result reader.new }
+fn read_statements(
+    reader: &mut Reader<'_>,
+    room: u8,
+) -> Result<Items<StatementNode<Name>>, StepError>
+    ensures { Reads as_refusal
+        (parser.many is_in_curly (rule.statement (rule.block room) room) reader.old) result reader.new }
 {
     let mut list = reader.empty_list();
     'each: while reader.sees_in_curly() {
@@ -355,15 +361,12 @@ fn read_statements(reader: &mut Reader<'_>, room: u8) -> Result<Items<StatementN
 
 /// A block, where so many brackets may still be opened.
 #[cycle(statement)]
-#[tactic(auto, unfolding(crate::specs::Reference::block, grammar::specs::Parser::opened))]
+#[tactic(auto, using(crate::proofs::Closings::block_opened), unfolding(crate::specs::Reference::block_with, grammar::specs::Parser::opened))]
 pub(crate) fn read_block(reader: &mut Reader<'_>, room: u8) -> Result<BlockNode<Name>, StepError>
     ensures { Reads as_refusal (rule.block room reader.old) result reader.new }
 {
-    if room == 0 {
-        return Err(reader.too_deep(Punct::LeftBrace));
-    }
-    let pos = reader.punct(Punct::LeftBrace)?;
-    let statements = read_statements(reader, room - 1)?;
+    let (pos, left) = reader.open(Punct::LeftBrace, room)?;
+    let statements = read_statements(reader, left)?;
     reader.punct(Punct::RightBrace)?;
     Ok(BlockNode {
         pos: Pos(pos),

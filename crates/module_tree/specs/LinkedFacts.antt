@@ -13,6 +13,7 @@ use Rattle.hh_base.specs.declared.value.CombineWord.TheVariants as word
 use Rattle.host_expr.specs.Expression.{expression_of}
 use Rattle.host_expr.specs.Kinds.{kind_of_expression}
 use Rattle.host_expr.specs.Measures.{leaves_and_operators}
+use Rattle.module_tree.specs.declared.limits.TheConstants.{EXPRESSION_LIMIT, COUNT_LIMIT}
 use Rattle.module_tree.specs.declared.source.NameAt.{NameAt}
 use Rattle.module_tree.specs.declared.source.ExprAt.{ExprAt}
 use Rattle.module_tree.specs.declared.source.SignalNode.{SignalNode}
@@ -211,11 +212,11 @@ all_names_differ parts =
 
 -- at most 1,024 leaves and operators
 abbrev pub is_small : ExprAt ℕ → Bool
-is_small x = nat_le (leaves_and_operators (expression_of x.expr)) 1024
+is_small x = nat_le (leaves_and_operators (expression_of x.expr)) EXPRESSION_LIMIT
 
--- a `count` is 1 to 64
+-- a `count` is 1 at least
 abbrev pub counts : StatementPart ℕ → Bool
-counts (Times n) = nat_le 1 n && nat_le n 64
+counts (Times n) = nat_le 1 n && nat_le n COUNT_LIMIT
 counts _ = true
 
 abbrev pub is_limited : StatementPart ℕ → Bool

@@ -3,6 +3,7 @@ use Rattle.std.specs.Prelude.{ℕ, suc, ◌+◌, ◌&&◌, Bool, true, List, nat
 use Rattle.host_expr.specs.declared.expr.Expr.{Expr}
 use Rattle.host_expr.specs.declared.expr.ExprNode.TheOpen as e
 use Rattle.host_expr.specs.declared.expr.ExprNode.TheFolds.{fold-Expr}
+use Rattle.module_tree.specs.declared.limits.TheConstants.{EXPRESSION_LIMIT}
 use Rattle.module_tree.specs.Parentheses.{levelled}
 use Rattle.module_tree.specs.SourceWords.{is_written_name, is_written_number, is_written_text}
 
@@ -58,4 +59,4 @@ nesting_of x = (levelled suc nesting_step x).value
 
 -- an outermost expression that a text can write, but for its nesting
 abbrev pub is_written_expression : Expr (List ℕ) → Bool
-is_written_expression x = has_written_words x && nat_le (size_of x) 1024
+is_written_expression x = has_written_words x && nat_le (size_of x) EXPRESSION_LIMIT

@@ -4,6 +4,7 @@
 use Rattle.std.specs.Prelude.{ℕ, ◌&&◌, Bool, true, false, List, [], ◌∷◌, Option, Some, None, nat_le}
 use Rattle.std.specs.List.{list_all}
 use Rattle.hh_base.specs.Value.{is_valued, is_interface}
+use Rattle.module_tree.specs.declared.limits.TheConstants.{COUNT_LIMIT}
 use Rattle.module_tree.specs.declared.source.NameAt.{NameAt}
 use Rattle.module_tree.specs.declared.source.ExprAt.{ExprAt}
 use Rattle.module_tree.specs.declared.source.SignalNode.{SignalNode}
@@ -49,7 +50,7 @@ fits_parameter p = is_written_name p.name && is_valued p.kind
 
 abbrev pub fits_later : Later (List ℕ) → Bool
 fits_later (plain.Once x) = fits_expression x
-fits_later (plain.Count n x) = nat_le 1 n && nat_le n 64 && fits_expression x
+fits_later (plain.Count n x) = nat_le 1 n && nat_le n COUNT_LIMIT && fits_expression x
 
 abbrev pub fits_delay : Delay (List ℕ) → Bool
 fits_delay (delay.Later p) = fits_later p

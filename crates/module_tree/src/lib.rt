@@ -2,5 +2,6 @@
 #![tactic(auto)]
 
 pub mod level;
+pub mod limits;
 pub mod linked;
 pub mod source;

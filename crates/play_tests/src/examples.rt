@@ -201,13 +201,15 @@ module Clock ( in start , in tick , out left : int ) { every ( start . now ) { a
 ) kill \"started anew\" ; every ( tick . now ) { emit left ( left . preval - 1 ) ; } } }
 ";
 
+const PROGRAMS: [(&str, &str); 3] = [
+    (LOGIN, LOGIN_PRINTED),
+    (ABRO, ABRO_PRINTED),
+    (CLOCK, CLOCK_PRINTED),
+];
+
 const FAULTS: [(&str, &str, u32); 10] = [
     ("module M() { $ }", "BadChar", 13),
-    (
-        "module M() { 9223372036854775809",
-        "NumberLarge",
-        13,
-    ),
+    ("module M() { 9223372036854775809", "NumberLarge", 13),
     ("module M() { \"ab", "TextOpen", 13),
     ("module M() { \"a\\r\"", "BadEscape", 15),
     ("module M() { /*/", "CommentOpen", 13),
@@ -218,16 +220,12 @@ const FAULTS: [(&str, &str, u32); 10] = [
     ),
     ("module M() { emit; }", "Unexpected", 17),
     ("module M() {", "EndOfText", 12),
-    (
-        "module M() { await count(0, a.now); }",
-        "BadCount",
-        25,
-    ),
+    ("module M() { await count(0, a.now); }", "BadCount", 25),
     ("body twice(n: int): int { n * 2 }", "NoModule", 0),
 ];
 
 /// What is printed of a text that is read.
-fn printed(alloc: Global, text: &str) -> Result<String, Fail> {
+pub fn printed(alloc: Global, text: &str) -> Result<String, Fail> {
     if text.len() >= 1 << 32 {
         return Err(Fail::new("the text is too long"));
     }
@@ -263,40 +261,14 @@ fn prints_each(
 }
 
 #[test]
-fn reads_parts(rt: HostRuntime) -> Result<(), Fail> {
-    prints_each(rt.alloc(), "", &PARTS, "\nmodule M ( ) { }\n")
-}
-
-#[test]
-fn reads_signals(rt: HostRuntime) -> Result<(), Fail> {
-    prints_each(rt.alloc(), "module M ( ", &SIGNALS, " ) { }\n")
-}
-
-#[test]
-fn reads_statements(rt: HostRuntime) -> Result<(), Fail> {
-    prints_each(rt.alloc(), "module M ( ) { ", &STATEMENTS, " }\n")
-}
-
-#[test]
-fn reads_delays(rt: HostRuntime) -> Result<(), Fail> {
-    prints_each(rt.alloc(), "module M ( ) { await ", &DELAYS, " ; }\n")
-}
-
-#[test]
-fn reads_expressions(rt: HostRuntime) -> Result<(), Fail> {
-    prints_each(
-        rt.alloc(),
-        "module M ( ) { if ( ",
-        &EXPRESSIONS,
-        " ) { } }\n",
-    )
-}
-
-#[test]
-fn reads_programs(rt: HostRuntime) -> Result<(), Fail> {
-    prints(rt.alloc(), LOGIN, LOGIN_PRINTED)?;
-    prints(rt.alloc(), ABRO, ABRO_PRINTED)?;
-    prints(rt.alloc(), CLOCK, CLOCK_PRINTED)
+fn reads_examples(rt: HostRuntime) -> Result<(), Fail> {
+    let alloc = rt.alloc();
+    prints_each(alloc, "", &PARTS, "\nmodule M ( ) { }\n")?;
+    prints_each(alloc, "module M ( ", &SIGNALS, " ) { }\n")?;
+    prints_each(alloc, "module M ( ) { ", &STATEMENTS, " }\n")?;
+    prints_each(alloc, "module M ( ) { await ", &DELAYS, " ; }\n")?;
+    prints_each(alloc, "module M ( ) { if ( ", &EXPRESSIONS, " ) { } }\n")?;
+    prints_each(alloc, "", &PROGRAMS, "")
 }
 
 #[test]

@@ -1,10 +1,6 @@
-//! Module texts that are read, printed, and read again, and the login text cut off at each byte.
+//! Module texts of each form, and their print.
 
-use module_tree::source::Modules;
-use module_printer::print::print;
-use module_reader::fault::ReadFault;
-use module_reader::read::read;
-use std::alloc::Global;
+use crate::examples::printed;
 use std::test::Fail;
 
 /// A session that asks for a name and a word, looks them up in the background, and watches the clock.
@@ -36,7 +32,7 @@ kill \"stop clock\" ; halt ; } } emit state ( \"closed\" ) ; } else { emit state
 ";
 
 /// Texts of each form, and their print.
-const PRINTS: [(&str, &str); 67] = [
+const PRINTS: [(&str, &str); 74] = [
     ("module M(){}// nothing", "module M ( ) { }\n"),
     ("module/**/M(/* a */) { // b\n }", "module M ( ) { }\n"),
     (
@@ -292,147 +288,41 @@ const PRINTS: [(&str, &str); 67] = [
         "body f(): int { 1 + (a ? 2 : 3) } module M() { await ((a ? b : c)); }",
         "body f ( ) : int { 1 + ( a ? 2 : 3 ) }\nmodule M ( ) { await ( a ? b : c ) ; }\n",
     ),
+    (
+        "module nowval(in preval: int combine or, out min, out max, out and, out or) { if (preval.nowval == preval.preval) {} }",
+        "module nowval ( in preval : int combine or , out min , out max , out and , out or ) { if ( preval . nowval == preval . preval ) { } }\n",
+    ),
+    (
+        "body f(): int { a /* . */ . // .\n now } module M() {}",
+        "body f ( ) : int { a . now }\nmodule M ( ) { }\n",
+    ),
+    (
+        "module M(in A, in A) { emit X(y.now); run N(A = A, A = B); break T; } module M() {}",
+        "module M ( in A , in A ) { emit X ( y . now ) ; run N ( A = A , A = B ) ; break T ; }\nmodule M ( ) { }\n",
+    ),
+    (
+        "module M(in A = 0009223372036854775807, in B = - 0009223372036854775808) {}",
+        "module M ( in A = 9223372036854775807 , in B = - 9223372036854775808 ) { }\n",
+    ),
+    (
+        "module M(){if(a==b&&c<=d||!e){emit S;}else{}}",
+        "module M ( ) { if ( a == b && c <= d || ! e ) { emit S ; } else { } }\n",
+    ),
+    (
+        "module modules(in input, out outer) { emit iff; emit elsewhere; sustain counts(nowval); }",
+        "module modules ( in input , out outer ) { emit iff ; emit elsewhere ; sustain counts ( nowval ) ; }\n",
+    ),
+    (
+        "body f(): bool { (a && b) < c || (a ? b : c) || d && !(a ? b : c) && !(-a) == -(!b) } module M() {}",
+        "body f ( ) : bool { ( a && b ) < c || ( a ? b : c ) || d && ! ( a ? b : c ) && ! ( - a ) == - ( ! b ) }\nmodule M ( ) { }\n",
+    ),
     (LOGIN, LOGIN_PRINTED),
 ];
-
-fn read_short(alloc: Global, text: &str) -> Result<Modules, Fail> {
-    if text.len() >= 1 << 32 {
-        return Err(Fail::new("the text is too long"));
-    }
-    match read(alloc, text) {
-        Ok(modules) => Ok(modules),
-        Err(_) => Err(Fail::new("the text is refused")),
-    }
-}
-
-/// What is printed of a text that is read.
-fn printed(alloc: Global, text: &str) -> Result<String, Fail> {
-    let modules = read_short(alloc, text)?;
-    Ok(String::from_utf8(print(alloc, &modules)?)?)
-}
 
 #[test]
 fn prints_what_is_read(rt: HostRuntime) -> Result<(), Fail> {
     for (text, want) in PRINTS {
-        let found = printed(rt.alloc(), text)?;
-        assert_eq!(rt; found.as_str(), want);
+        assert_eq!(rt; printed(rt.alloc(), text)?.as_str(), want);
     }
-    Ok(())
-}
-
-#[test]
-fn reads_what_is_printed(rt: HostRuntime) -> Result<(), Fail> {
-    for (_, text) in PRINTS {
-        let found = printed(rt.alloc(), text)?;
-        assert_eq!(rt; found.as_str(), text);
-    }
-    Ok(())
-}
-
-/// The words of the login text in whose place only certain words may stand.
-const FIXED_WORDS: [&str; 21] = [
-    "host",
-    "body",
-    "module",
-    "in",
-    "out",
-    "int",
-    "bool",
-    "text",
-    "every",
-    "emit",
-    "async",
-    "call",
-    "kill",
-    "if",
-    "else",
-    "weakabort",
-    "abort",
-    "count",
-    "halt",
-    "now",
-    "nowval",
-];
-
-/// The cuts that leave nothing, or whole hosts and bodies alone.
-const CUTS_BEFORE_MODULE: [usize; 5] = [0, 33, 34, 70, 71];
-
-/// Where the quoted text begins that a prefix leaves open.
-fn open_quote(prefix: &str) -> Option<usize> {
-    if prefix.matches('"').count() % 2 == 0 {
-        return None;
-    }
-    prefix.rfind('"')
-}
-
-/// Where the word begins that a cut goes through, if it leaves a word that may not stand there.
-fn broken_word(text: &str, end: usize) -> Option<usize> {
-    let prefix = text.get(..end)?;
-    let start = prefix
-        .trim_end_matches(|c: char| c.is_ascii_alphanumeric() || c == '_')
-        .len();
-    let front = text.get(start..end)?;
-    let rest = text.get(start..)?;
-    let (whole, _) = rest.split_once(|c: char| !(c.is_ascii_alphanumeric() || c == '_'))?;
-    let may_stand = front == ""
-        || front == whole
-        || front == "now"
-        || !FIXED_WORDS.contains(&whole);
-    if may_stand { None } else { Some(start) }
-}
-
-/// The fault of the login text that is cut off at this place.
-fn fault_of_cut(text: &str, end: usize) -> Option<(&'static str, usize)> {
-    if let Some(quote) = open_quote(text.get(..end)?) {
-        return Some(("TextOpen", quote));
-    }
-    if let Some(word) = broken_word(text, end) {
-        return Some(("Unexpected", word));
-    }
-    if CUTS_BEFORE_MODULE.contains(&end) {
-        return Some(("NoModule", 0));
-    }
-    Some(("EndOfText", end))
-}
-
-fn fault_of(alloc: Global, text: &str) -> Result<ReadFault, Fail> {
-    if text.len() >= 1 << 32 {
-        return Err(Fail::new("the text is too long"));
-    }
-    match read(alloc, text) {
-        Ok(_) => Err(Fail::new("a text that is cut off is read")),
-        Err(fault) => Ok(fault),
-    }
-}
-
-/// The fault of each prefix of a text, the shortest first.
-fn faults_of_cuts(alloc: Global, text: &str) -> Result<Vec<ReadFault>, Fail> {
-    let mut faults = Vec::new(alloc);
-    for end in 0..text.len() {
-        match text.get(..end) {
-            Some(prefix) => faults.push(fault_of(alloc, prefix)?)?,
-            None => return Err(Fail::new("a cut through a character")),
-        }
-    }
-    Ok(faults)
-}
-
-fn count_of(faults: &[ReadFault], kind: &str) -> usize {
-    faults.iter().filter(|fault| fault.word() == kind).count()
-}
-
-// Whatever stands before the cut is no fault: it comes at the token that the cut goes through, or at the end.
-#[test]
-fn refuses_each_prefix_at_its_end(rt: HostRuntime) -> Result<(), Fail> {
-    let text = LOGIN.trim_end();
-    let faults = faults_of_cuts(rt.alloc(), text)?;
-    for (end, fault) in faults.iter().enumerate() {
-        let found = Some((fault.word(), fault.place() as usize));
-        assert!(rt; found == fault_of_cut(text, end), "{end}");
-    }
-    assert_eq!(rt; count_of(&faults, "EndOfText"), 383);
-    assert_eq!(rt; count_of(&faults, "Unexpected"), 126);
-    assert_eq!(rt; count_of(&faults, "TextOpen"), 50);
-    assert_eq!(rt; count_of(&faults, "NoModule"), 5);
     Ok(())
 }

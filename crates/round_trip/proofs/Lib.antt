@@ -1,3 +1,4 @@
+pub mod Lexemes
 pub mod spelling
 pub mod lifting
 pub mod Trips

@@ -18,17 +18,27 @@ pub has_text : EachSourceTreeHasAText
 has_text m h =
     let words = printed_has_tokens m h in
     let text = printed_is_text m h words.0 words.2 in
-    record { read = text.0; has_tree = record { tokens = words.0; has_tokens = words.1; spells = text.1 }; same = text.2 }
+    record {
+      read = text.0;
+      has_tree = record { tokens = words.0; has_tokens = words.1; spells = text.1 };
+      same = text.2;
+    }
 
 pub is_source_tree : EachTreeOfATextIsSource
 is_source_tree text m h = written m (map to_grammar h.tokens) (all_lawful h.has_tokens) h.spells
 
 -- what is read where each tree of the text is read, unless memory runs out
 module _ (m : List (Part (List ℕ))) (source : is_source m ≡ true) where
-  by_tree : (tree : List (Part (List ℕ))) → SameButPlaces tree m → (result : Result (List (Part (List ℕ))) ReadFault) → MatchResult result (λ r. r ≡ tree) (λ e. e ≡ fault.NoMemory) → IfOk result (λ r. SameButPlaces r m) × IfErr result (λ e. e ≡ fault.NoMemory)
+  by_tree : (tree : List (Part (List ℕ))) → SameButPlaces tree m
+      → (result : Result (List (Part (List ℕ))) ReadFault) → MatchResult result (λ r. r ≡ tree)
+      (λ e. e ≡ fault.NoMemory) → IfOk result (λ r. SameButPlaces r m)
+      × IfErr result (λ e. e ≡ fault.NoMemory)
   by_tree tree same (Ok r) e = (subst (λ t. SameButPlaces t m) (sym e) same, tt)
   by_tree tree same (Err e) h = (tt, h)
 
-  pub read_back : (result : Result (List (Part (List ℕ))) ReadFault) → ((tree : List (Part (List ℕ))) → HasTree (printed m) tree → MatchResult result (λ r. r ≡ tree) (λ e. e ≡ fault.NoMemory))
+  pub read_back : (result : Result (List (Part (List ℕ))) ReadFault)
+      → ((tree : List (Part (List ℕ))) → HasTree (printed m) tree
+      → MatchResult result (λ r. r ≡ tree) (λ e. e ≡ fault.NoMemory))
       → IfOk result (λ r. SameButPlaces r m) × IfErr result (λ e. e ≡ fault.NoMemory)
-  read_back result only = let text = has_text m source in by_tree text.read text.same result (only text.read text.has_tree)
+  read_back result only = let text = has_text m source in by_tree text.read text.same result
+      (only text.read text.has_tree)

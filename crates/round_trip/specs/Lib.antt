@@ -1,3 +1,2 @@
-pub mod Lexemes
 pub mod Places
 pub mod Trips

@@ -37,7 +37,13 @@ abbrev pub placeless_name : NameAt Name → NameAt Name
 placeless_name n = record { pos = pos_at 0; name = n.name }
 
 abbrev pub placeless_signal : SignalNode → SignalNode
-placeless_signal s = record { pos = pos_at 0; name = s.name; kind = s.kind; first = s.first; combine = s.combine }
+placeless_signal s = record {
+  pos = pos_at 0;
+  name = s.name;
+  kind = s.kind;
+  first = s.first;
+  combine = s.combine;
+}
 
 abbrev pub placeless_interface : InterfaceNode → InterfaceNode
 placeless_interface d = record { dir = d.dir; signal = placeless_signal d.signal }
@@ -58,12 +64,20 @@ placeless_binding b = record { left = placeless_name b.left; right = placeless_n
 
 abbrev pub placeless_async : AsyncNode Name → AsyncNode Name
 placeless_async a =
-    record { signal = option_map placeless_name a.signal; body = placeless_name a.body; args = map placeless_outermost a.args; kill = a.kill; suspend = a.suspend; resume = a.resume }
+    record {
+      signal = option_map placeless_name a.signal;
+      body = placeless_name a.body;
+      args = map placeless_outermost a.args;
+      kill = a.kill;
+      suspend = a.suspend;
+      resume = a.resume;
+    }
 
 -- ---- statements
 
 -- by one layer, with its parts without places
-abbrev pub statement_step : layer.Statement-F Name (Statement Name) (BlockNode Name) (StatementNode Name) → Statement Name
+abbrev pub statement_step : layer.Statement-F Name (Statement Name) (BlockNode Name) (StatementNode Name)
+    → Statement Name
 statement_step layer.Nothing = s.Nothing
 statement_step layer.Pause = s.Pause
 statement_step layer.Halt = s.Halt
@@ -85,21 +99,41 @@ statement_step (layer.Break n) = s.Break (placeless_name n)
 statement_step (layer.Run n bindings) = s.Run (placeless_name n) (map placeless_binding bindings)
 statement_step (layer.Async a) = s.Async (placeless_async a)
 
-abbrev pub block_step : layer.BlockNode-F Name (Statement Name) (BlockNode Name) (StatementNode Name) → BlockNode Name
+abbrev pub block_step : layer.BlockNode-F Name (Statement Name) (BlockNode Name) (StatementNode Name)
+    → BlockNode Name
 block_step b = block_at 0 b.statements
 
-abbrev pub node_step : layer.StatementNode-F Name (Statement Name) (BlockNode Name) (StatementNode Name) → StatementNode Name
+abbrev pub node_step : layer.StatementNode-F Name (Statement Name) (BlockNode Name) (StatementNode Name)
+    → StatementNode Name
 node_step n = statement_at 0 n.what
 
 abbrev pub placeless_block : BlockNode Name → BlockNode Name
-placeless_block = fold-BlockNode Name (Statement Name) (BlockNode Name) (StatementNode Name) statement_step block_step node_step
+placeless_block = fold-BlockNode Name (Statement Name) (BlockNode Name)
+    (StatementNode Name) statement_step block_step node_step
 
 -- ---- texts
 
 abbrev pub placeless_part : Part Name → Part Name
-placeless_part (top.Body b) = top.Body (record { pos = pos_at 0; name = b.name; parameters = map placeless_parameter b.parameters; answer = b.answer; expr = placeless_outermost b.expr })
-placeless_part (top.Host h) = top.Host (record { pos = pos_at 0; token = pos_at 0; name = h.name; parameters = h.parameters; answer = h.answer })
-placeless_part (top.Module m) = top.Module (record { pos = pos_at 0; name = m.name; interface = map placeless_interface m.interface; block = placeless_block m.block })
+placeless_part (top.Body b) = top.Body (record {
+  pos = pos_at 0;
+  name = b.name;
+  parameters = map placeless_parameter b.parameters;
+  answer = b.answer;
+  expr = placeless_outermost b.expr;
+})
+placeless_part (top.Host h) = top.Host (record {
+  pos = pos_at 0;
+  token = pos_at 0;
+  name = h.name;
+  parameters = h.parameters;
+  answer = h.answer;
+})
+placeless_part (top.Module m) = top.Module (record {
+  pos = pos_at 0;
+  name = m.name;
+  interface = map placeless_interface m.interface;
+  block = placeless_block m.block;
+})
 
 abbrev pub without_places : List (Part Name) → List (Part Name)
 without_places = map placeless_part

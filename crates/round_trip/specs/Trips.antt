@@ -14,8 +14,10 @@ pub record HasTreeButPlaces (text : List ℕ) (tree : List (Part (List ℕ))) : 
 
 -- each tree that passes the tests is, but for places, that of its print
 abbrev pub EachSourceTreeHasAText : Type 0
-EachSourceTreeHasAText = (tree : List (Part (List ℕ))) → is_source tree ≡ true → HasTreeButPlaces (printed tree) tree
+EachSourceTreeHasAText = (tree : List (Part (List ℕ))) → is_source tree ≡ true
+    → HasTreeButPlaces (printed tree) tree
 
 -- each tree of a text passes the tests
 abbrev pub EachTreeOfATextIsSource : Type 0
-EachTreeOfATextIsSource = (text : List ℕ) (tree : List (Part (List ℕ))) → HasTree text tree → is_source tree ≡ true
+EachTreeOfATextIsSource = (text : List ℕ) (tree : List (Part (List ℕ))) → HasTree text tree
+    → is_source tree ≡ true

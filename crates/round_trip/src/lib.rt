@@ -9,14 +9,14 @@ ghost use Rattle.round_trip.specs.Trips.{EachSourceTreeHasAText, EachTreeOfAText
 #[cfg(test)]
 mod tests;
 
-use module_tree::source::Modules;
 use module_printer::print::print;
 use module_reader::fault::ReadFault;
 use module_reader::read::read;
+use module_tree::source::Modules;
 use std::alloc::Global;
 
-/// A law: the tests of a source tree, which `Modules` keeps, say which trees a text has, but for places. The call
-/// does nothing; its contract is the law.
+/// A law: the tests of a source tree, which `Modules` keeps, say which trees a text has, but for places. The
+/// call does nothing; its contract is the law.
 pub fn source_trees()
     ensures has_text { EachSourceTreeHasAText }
     ensures of_text { EachTreeOfATextIsSource }

@@ -4,9 +4,9 @@ ghost use Rattle.std.specs.Prelude.{◌≡◌};
 ghost use Rattle.module_printer.specs.Printed.{printed};
 
 use crate::read_back;
-use module_tree::source::Modules;
 use module_printer::print::print;
 use module_reader::read::read;
+use module_tree::source::Modules;
 use std::alloc::Global;
 use std::test::Fail;
 

@@ -29,23 +29,30 @@ pub record Fits {A : Type 0} (test : A → Bool) (nesting : A → ℕ) (room : �
 -- ---- brackets
 
 -- a part between brackets
-pub keeps_bracketed : {A : Type 0} {test : A → Bool} {nesting : A → ℕ} {part : ℕ → Lang A} (left_one right_one : Terminal) → ((left : ℕ) → Keeps (Fits test nesting left) (part left))
-    → (room : ℕ) → Keeps (Fits test (λ a. suc (nesting a)) room) (l.opened room left_one (λ left place. part left >>= (λ a. l.token right_one >> pure a)))
+pub keeps_bracketed : {A : Type 0} {test : A → Bool} {nesting : A → ℕ} {part : ℕ → Lang A}
+    (left_one right_one : Terminal) → ((left : ℕ) → Keeps (Fits test nesting left) (part left))
+    → (room : ℕ) → Keeps (Fits test (λ a. suc (nesting a)) room)
+    (l.opened room left_one (λ left place. part left >>= (λ a. l.token right_one >> pure a)))
 keeps_bracketed left_one right_one h zero = record { of = λ a text ks lawful few e. absurd e }
 keeps_bracketed left_one right_one h (suc room) =
-    keeps_after (λ place. keeps_then (h room) (λ a e. keeps_after (λ n. keeps_pure (record { passes = e.passes; within = omega (arith, e.within) }))))
+    keeps_after (λ place. keeps_then (h room) (λ a e. keeps_after
+    (λ n. keeps_pure (record { passes = e.passes; within = omega (arith, e.within) }))))
 
-pub keeps_round : {A : Type 0} {test : A → Bool} {nesting : A → ℕ} {part : ℕ → Lang A} → ((left : ℕ) → Keeps (Fits test nesting left) (part left))
+pub keeps_round : {A : Type 0} {test : A → Bool} {nesting : A → ℕ} {part : ℕ → Lang A}
+    → ((left : ℕ) → Keeps (Fits test nesting left) (part left))
     → (room : ℕ) → Keeps (Fits test (λ a. suc (nesting a)) room) (g.in_round part room)
 keeps_round h room = keeps_bracketed _ _ h room
 
-pub keeps_curly : {A : Type 0} {test : A → Bool} {nesting : A → ℕ} {part : ℕ → Lang A} → ((left : ℕ) → Keeps (Fits test nesting left) (part left))
+pub keeps_curly : {A : Type 0} {test : A → Bool} {nesting : A → ℕ} {part : ℕ → Lang A}
+    → ((left : ℕ) → Keeps (Fits test nesting left) (part left))
     → (room : ℕ) → Keeps (Fits test (λ a. suc (nesting a)) room) (g.in_curly part room)
 keeps_curly h room = keeps_bracketed _ _ h room
 
 -- ---- lists
 
-pub all_fit : {A : Type 0} (test : A → Bool) (nesting : A → ℕ) (room : ℕ) (xs : List A) → AllByRecursion (Fits test nesting room) xs → Fits (list_all test) (λ ys. largest (map nesting ys)) room xs
+pub all_fit : {A : Type 0} (test : A → Bool) (nesting : A → ℕ) (room : ℕ) (xs : List A)
+    → AllByRecursion (Fits test nesting room) xs → Fits (list_all test)
+    (λ ys. largest (map nesting ys)) room xs
 all_fit test nesting room [] h = record { passes = refl; within = omega arith }
 all_fit test nesting room (a ∷ xs) h =
     let more = all_fit test nesting room xs h.1 in
@@ -61,12 +68,16 @@ few_marks c [] le few = omega (arith, le)
 few_marks c (zero ∷ ms) le few = few_marks c ms le few.1
 few_marks c (suc m ∷ ms) le few = omega (arith, few_marks (suc c) ms few.0 few.1)
 
-expr_fits : (room : ℕ) → Keeps (λ (a : ℕ × Expr Name). Fits fits_expression nesting_at room (expr_at a)) (l.outer (l.placed (g.expression (g.inside room))))
+expr_fits : (room : ℕ) → Keeps (λ (a : ℕ × Expr Name). Fits fits_expression nesting_at room (expr_at a))
+    (l.outer (l.placed (g.expression (g.inside room))))
 expr_fits room = record {
   of = λ a text ks lawful few h.
       let x = (expression room).of a.1 text h.0 lawful h.1.4 in
       let small = few_marks 0 h.0 (omega arith) (subst (Few symbols) h.2 few) in
-      record { passes = both x.words (le-leb _ 1024 (omega (arith, small, x.size))); within = nesting_is room a.1 (marked h.0) x };
+      record {
+        passes = both x.words (le-leb _ 1024 (omega (arith, small, x.size)));
+        within = nesting_is room a.1 (marked h.0) x;
+      };
 }
 
 pub outermost : (room : ℕ) → Keeps (Fits fits_expression nesting_at room) (g.outermost room)
@@ -75,5 +86,8 @@ outermost room = keeps_then (expr_fits room) (λ a h. keeps_pure h)
 pub tested : (room : ℕ) → Keeps (Fits fits_expression in_parentheses room) (g.test room)
 tested room = keeps_round outermost room
 
-pub value : (room : ℕ) → Keeps (Fits (if_there fits_expression) nesting_of_value room) (g.optional (g.test room))
-value room = keeps_or (keeps_then (tested room) (λ a h. keeps_pure (record { passes = h.passes; within = h.within }))) (keeps_pure (record { passes = refl; within = omega arith }))
+pub value : (room : ℕ) → Keeps (Fits (if_there fits_expression) nesting_of_value room)
+    (g.optional (g.test room))
+value room = keeps_or
+    (keeps_then (tested room) (λ a h. keeps_pure (record { passes = h.passes; within = h.within })))
+    (keeps_pure (record { passes = refl; within = omega arith }))

@@ -1,4 +1,5 @@
--- What the trees of a language keep, combinator by combinator: outside expressions where no leaf or operator is past the limit, and inside by their number.
+-- What the trees of a language keep, combinator by combinator: outside expressions where no leaf or operator
+-- is past the limit, and inside by their number.
 use Rattle.std.proofs.Common.{◌≡◌, ℕ, ◌+◌, ◌≤◌, List, [], ◌∷◌, ◌++◌, Option, Some, None, refl, sym, subst, arith, inl, inr}
 use Rattle.std.specs.List.{AllByRecursion}
 use Rattle.grammar.specs.Tokens.{Tok}
@@ -9,7 +10,7 @@ use Rattle.grammar.proofs.Levels.{marked, marked-append, all_left, all_right}
 use Rattle.expression_reader.specs.declared.terminal.Terminal.{Terminal}
 use Rattle.expression_reader.specs.Terminals.{symbols}
 use Rattle.expression_reader.specs.Rules.{Lang, optional}
-use Rattle.expression_reader.specs.Lawful.{IsLawful, Lawful}
+use Rattle.expression_reader.proofs.Lawful.{IsLawful, Lawful}
 
 -- each tree of the language has it, whatever its text of lawful tokens
 pub record Tells {A : Type 0} (P : A → Type 0) (s : Lang A) : Type 0 where
@@ -17,7 +18,8 @@ pub record Tells {A : Type 0} (P : A → Type 0) (s : Lang A) : Type 0 where
 
 -- the same of a text in which no leaf or operator is past the limit
 pub record Keeps {A : Type 0} (P : A → Type 0) (s : Lang A) : Type 0 where
-  pub of : (a : A) (text : List (Tok Terminal)) (ks : List ℕ) → Lawful text → Few symbols ks → s a text ks → P a
+  pub of : (a : A) (text : List (Tok Terminal)) (ks : List ℕ) → Lawful text → Few symbols ks → s a text ks
+      → P a
 
 -- the same inside an expression, with the number of leaves and operators
 pub record Counts {A : Type 0} (P : A → ℕ → Type 0) (s : Lang A) : Type 0 where
@@ -35,7 +37,8 @@ pub keeps : {A : Type 0} {P : A → Type 0} {s : Lang A} → Tells P s → Keeps
 keeps f = record { of = λ a text ks lawful few h. f.of a text ks lawful h }
 
 module _ {A B : Type 0} {P : A → Type 0} {Q : B → Type 0} where
-  pub keeps_then : {first : Lang A} {second : A → Lang B} → Keeps P first → ((a : A) → P a → Keeps Q (second a)) → Keeps Q (first >>= second)
+  pub keeps_then : {first : Lang A} {second : A → Lang B} → Keeps P first
+      → ((a : A) → P a → Keeps Q (second a)) → Keeps Q (first >>= second)
   keeps_then f g = record {
     of = λ b text ks lawful few h.
         let lawful2 = subst Lawful h.5 lawful in
@@ -46,16 +49,24 @@ module _ {A B : Type 0} {P : A → Type 0} {Q : B → Type 0} where
 
 module _ {A : Type 0} {P : A → Type 0} where
   -- behind a token, given its place
-  pub keeps_after : {k : Terminal} {second : ℕ → Lang A} → ((n : ℕ) → Keeps P (second n)) → Keeps P (l.token k >>= second)
+  pub keeps_after : {k : Terminal} {second : ℕ → Lang A} → ((n : ℕ) → Keeps P (second n))
+      → Keeps P (l.token k >>= second)
   keeps_after g = keeps_then (record { of = λ a text ks lawful few h. tt }) (λ n (_ : Unit {0}). g n)
 
   pub keeps_pure : {a : A} → P a → Keeps P (pure a)
   keeps_pure h = record { of = λ b text ks lawful few e. subst P (sym e.0) h }
 
   pub keeps_or : {first second : Lang A} → Keeps P first → Keeps P second → Keeps P (first or second)
-  keeps_or f g = record { of = λ a text ks lawful few h. elim h [ inl x ↦ f.of a text ks lawful few x | inr y ↦ g.of a text ks lawful few y ] }
+  keeps_or f g = record {
+    of = λ a text ks lawful few h. elim h [
+      | inl x ↦
+          f.of a text ks lawful few x
+      | inr y ↦ g.of a text ks lawful few y
+    ];
+  }
 
-  keeps_each : {item : Lang A} → Keeps P item → (xs : List A) (text : List (Tok Terminal)) (ks : List ℕ) → Lawful text → Few symbols ks → many item xs text ks → AllByRecursion P xs
+  keeps_each : {item : Lang A} → Keeps P item → (xs : List A) (text : List (Tok Terminal)) (ks : List ℕ)
+      → Lawful text → Few symbols ks → many item xs text ks → AllByRecursion P xs
   keeps_each f [] text ks lawful few h = tt
   keeps_each f (a ∷ xs) text ks lawful few h =
       let lawful2 = subst Lawful h.4 lawful in
@@ -73,7 +84,8 @@ module _ {A : Type 0} {P : A → Type 0} where
 -- ---- inside an expression
 
 module _ {A B : Type 0} {P : A → ℕ → Type 0} {Q : B → ℕ → Type 0} where
-  pub counts_then : {first : Lang A} {second : A → Lang B} → Counts P first → ((a : A) (n : ℕ) → P a n → Counts (λ b m. Q b (n + m)) (second a)) → Counts Q (first >>= second)
+  pub counts_then : {first : Lang A} {second : A → Lang B} → Counts P first
+      → ((a : A) (n : ℕ) → P a n → Counts (λ b m. Q b (n + m)) (second a)) → Counts Q (first >>= second)
   counts_then f g = record {
     of = λ b text ms lawful h.
         let lawful2 = subst Lawful h.5 lawful in
@@ -83,7 +95,8 @@ module _ {A B : Type 0} {P : A → ℕ → Type 0} {Q : B → ℕ → Type 0} wh
   }
 
 module _ {A : Type 0} {P : A → ℕ → Type 0} where
-  pub counts_after : {k : Terminal} {second : ℕ → Lang A} → ((n : ℕ) → Counts P (second n)) → Counts P (l.token k >>= second)
+  pub counts_after : {k : Terminal} {second : ℕ → Lang A} → ((n : ℕ) → Counts P (second n))
+      → Counts P (l.token k >>= second)
   counts_after g = record {
     of = λ b text ms lawful h.
         let q = (g h.0).of b h.2 h.4 (all_right IsLawful h.1 h.2 (subst Lawful h.5 lawful)) h.8 in
@@ -94,9 +107,16 @@ module _ {A : Type 0} {P : A → ℕ → Type 0} where
   counts_pure h = record { of = λ b text ms lawful e. rw (e.0, e.2) h }
 
   pub counts_or : {first second : Lang A} → Counts P first → Counts P second → Counts P (first or second)
-  counts_or f g = record { of = λ a text ms lawful h. elim h [ inl x ↦ f.of a text ms lawful x | inr y ↦ g.of a text ms lawful y ] }
+  counts_or f g = record {
+    of = λ a text ms lawful h. elim h [
+      | inl x ↦ f.of a text ms lawful x
+      | inr y ↦
+          g.of a text ms lawful y
+    ];
+  }
 
-  pub counts_more : {Q : A → ℕ → Type 0} {s : Lang A} → ((a : A) (n : ℕ) → Q a n → P a n) → Counts Q s → Counts P s
+  pub counts_more : {Q : A → ℕ → Type 0} {s : Lang A} → ((a : A) (n : ℕ) → Q a n → P a n) → Counts Q s
+      → Counts P s
   counts_more g f = record { of = λ a text ms lawful h. g a (marked ms) (f.of a text ms lawful h) }
 
 -- each of a list has it, with numbers whose sum this is
@@ -110,7 +130,8 @@ IfThere P None n = n ≡ 0
 IfThere P (Some a) n = P a n
 
 module _ {A : Type 0} {P : A → ℕ → Type 0} where
-  counts_each : {item : Lang A} → Counts P item → (xs : List A) (text : List (Tok Terminal)) (ms : List ℕ) → Lawful text → many item xs text ms → Sums P xs (marked ms)
+  counts_each : {item : Lang A} → Counts P item → (xs : List A) (text : List (Tok Terminal)) (ms : List ℕ)
+      → Lawful text → many item xs text ms → Sums P xs (marked ms)
   counts_each f [] text ms lawful h = rw h.1 refl
   counts_each f (a ∷ xs) text ms lawful h =
       let lawful2 = subst Lawful h.4 lawful in (
@@ -125,9 +146,12 @@ module _ {A : Type 0} {P : A → ℕ → Type 0} where
   counts_many f = record { of = counts_each f }
 
   pub counts_optional : {part : Lang A} → Counts P part → Counts (IfThere P) (optional part)
-  counts_optional f = counts_or (counts_then f (λ a n h. counts_pure (subst (P a) (let e : n ≡ n + 0 = omega arith in e) h))) (counts_pure refl)
+  counts_optional f = counts_or
+      (counts_then f (λ a n h. counts_pure (subst (P a) (let e : n ≡ n + 0 = omega arith in e) h)))
+      (counts_pure refl)
 
 -- ---- one token
 
-pub counts_counted : {A : Type 0} {P : A → Type 0} {s : Lang A} → Tells P s → Counts (λ a n. (n ≡ 1) × P a) (l.counted s)
+pub counts_counted : {A : Type 0} {P : A → Type 0} {s : Lang A} → Tells P s
+    → Counts (λ a n. (n ≡ 1) × P a) (l.counted s)
 counts_counted f = record { of = λ a text ms lawful h. (rw h.1 refl, f.of a text (0 ∷ []) lawful h.0) }

@@ -17,5 +17,8 @@ module _ {A : Type 0} (step : e.ExprNode-F Name A A → A) where
   abbrev pub of_parts : e.ExprNode-F Name (ExprNode Name) (Expr Name) → e.ExprNode-F Name A A
   of_parts = map-ExprNode Name (ExprNode Name) (Expr Name) A A of_node of_expr
 
-  pub expr_layer : (n : ℕ) (parts : e.ExprNode-F Name (ExprNode Name) (Expr Name)) {x : ExprNode Name} → roll-ExprNode Name parts ≡ x → of_expr (node n x) ≡ step (of_parts parts)
-  expr_layer n parts {x} rolls = fold-roll-Expr Name A A step (λ x. x.node) (record { pos = pos_at n; node = x }) ∙ ap of_node (sym rolls) ∙ fold-roll-ExprNode Name A A step (λ x. x.node) parts
+  pub expr_layer : (n : ℕ) (parts : e.ExprNode-F Name (ExprNode Name) (Expr Name)) {x : ExprNode Name}
+      → roll-ExprNode Name parts ≡ x → of_expr (node n x) ≡ step (of_parts parts)
+  expr_layer n parts {x} rolls = fold-roll-Expr Name A A step (λ x. x.node)
+      (record { pos = pos_at n; node = x }) ∙ ap of_node (sym rolls)
+      ∙ fold-roll-ExprNode Name A A step (λ x. x.node) parts

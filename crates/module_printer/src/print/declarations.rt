@@ -1,16 +1,15 @@
 //! Writing the parts of declarations.
 
-ghost use Rattle.std.specs.Prelude.{◌≡◌, ◌∷◌, ◌++◌, [], codes, OnOk};
+ghost use Rattle.std.specs.Prelude.{◌≡◌, ◌∷◌, [], codes};
 ghost use Rattle.module_printer.specs.SourceTokens.{token_of_kind, token_of_combine, tokens_of_kind, tokens_of_dir, tokens_of_type, tokens_of_first, tokens_of_combine, tokens_of_signal, tokens_of_interface, tokens_of_parameter, tokens_of_binding, if_there};
 ghost use Rattle.module_printer.specs.ExpressionTokens.{tokens_of_value};
-ghost use Rattle.module_printer.specs.Printed.{spaced};
+ghost use Rattle.module_printer.specs.Printed.{Writes};
 
 use crate::print::expressions::truth_token;
-use crate::print::printer::{Printer, Printable};
+use crate::print::printer::{Printable, Printer};
 use hh_base::memory::NoMemory;
 use hh_base::name::Name;
-use hh_base::value::{CombineWord, Kind, Value};
-use hh_base::value::Dir;
+use hh_base::value::{CombineWord, Dir, Kind, Value};
 use module_tree::source::{Binding, InterfaceNode, ParameterNode, SignalNode};
 
 fn kind_token(kind: Kind) -> &'static str
@@ -39,14 +38,14 @@ fn combine_token(word: CombineWord) -> &'static str
 impl Printer {
     /// Writes `: KIND`.
     pub fn typed(&mut self, kind: Kind) -> Result<(), NoMemory>
-        ensures { OnOk result (self.new ≡ self.old ++ spaced (codes ":" ∷ token_of_kind kind ∷ [])) }
+        ensures { Writes result self.old self.new (codes ":" ∷ token_of_kind kind ∷ []) }
     {
         self.token(":")?;
         self.token(kind_token(kind))
     }
 
     fn signal_type(&mut self, kind: Kind) -> Result<(), NoMemory>
-        ensures { OnOk result (self.new ≡ self.old ++ spaced (tokens_of_type kind)) }
+        ensures { Writes result self.old self.new (tokens_of_type kind) }
     {
         match kind {
             Kind::Pure => Ok(()),
@@ -55,7 +54,7 @@ impl Printer {
     }
 
     fn value(&mut self, value: &Value) -> Result<(), NoMemory>
-        ensures { OnOk result (self.new ≡ self.old ++ spaced (tokens_of_value value.now)) }
+        ensures { Writes result self.old self.new (tokens_of_value value.now) }
     {
         match value {
             Value::Unit => self.token("unit"),
@@ -66,7 +65,7 @@ impl Printer {
     }
 
     fn first_value(&mut self, first: &Option<Value>) -> Result<(), NoMemory>
-        ensures { OnOk result (self.new ≡ self.old ++ spaced (if_there tokens_of_first first.now)) }
+        ensures { Writes result self.old self.new (if_there tokens_of_first first.now) }
     {
         match first {
             None => Ok(()),
@@ -78,7 +77,7 @@ impl Printer {
     }
 
     fn combine(&mut self, combine: Option<CombineWord>) -> Result<(), NoMemory>
-        ensures { OnOk result (self.new ≡ self.old ++ spaced (if_there tokens_of_combine combine)) }
+        ensures { Writes result self.old self.new (if_there tokens_of_combine combine) }
     {
         match combine {
             None => Ok(()),
@@ -90,7 +89,7 @@ impl Printer {
     }
 
     fn direction(&mut self, dir: Dir) -> Result<(), NoMemory>
-        ensures { OnOk result (self.new ≡ self.old ++ spaced (tokens_of_dir dir)) }
+        ensures { Writes result self.old self.new (tokens_of_dir dir) }
     {
         match dir {
             Dir::Input => self.token("in"),

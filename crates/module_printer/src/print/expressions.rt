@@ -1,17 +1,17 @@
 //! Writing expressions, with exactly the parentheses that they need.
 
-ghost use Rattle.std.specs.Prelude.{◌≡◌, ◌∷◌, ◌++◌, [], OnOk};
+ghost use Rattle.std.specs.Prelude.{◌≡◌, ◌∷◌};
 ghost use Rattle.module_tree.specs.Parentheses.{at};
 ghost use Rattle.module_printer.specs.ExpressionTokens.{in_parentheses, token_of_op, token_of_rel, token_of_truth, tokens_of_read, tokens_of_expression, written, written_node};
 ghost use Rattle.module_printer.specs.SourceTokens.{tokens_of_outermost};
-ghost use Rattle.module_printer.specs.Printed.{spaced};
+ghost use Rattle.module_printer.specs.Printed.{Writes};
 
-use crate::print::printer::{Printer, Printable};
+use crate::print::printer::{Printable, Printer};
 use hh_base::memory::NoMemory;
 use hh_base::name::Name;
+use host_expr::expr::{Expr, ExprNode, Op, Rel};
 use module_tree::level::Level;
 use module_tree::source::ExprAt;
-use host_expr::expr::{Expr, ExprNode, Op, Rel};
 
 fn op_token(op: Op) -> &'static str
     ensures { result.now ≡ token_of_op op }
@@ -60,7 +60,7 @@ fn level_of(node: &ExprNode<Name>) -> Level
 
 impl Printer {
     fn read(&mut self, signal: &Name, word: &str) -> Result<(), NoMemory>
-        ensures { OnOk result (self.new ≡ self.old ++ spaced (tokens_of_read signal.now word.now)) }
+        ensures { Writes result self.old self.new (tokens_of_read signal.now word.now) }
     {
         self.token(signal.as_str())?;
         self.token(".")?;
@@ -70,7 +70,7 @@ impl Printer {
     /// Writes an operand in a place that takes this level and tighter ones.
     #[cycle(expression)]
     fn operand(&mut self, least: Level, expr: &Expr<Name>) -> Result<(), NoMemory>
-        ensures { OnOk result (self.new ≡ self.old ++ spaced (at in_parentheses least (written expr.now))) }
+        ensures { Writes result self.old self.new (at in_parentheses least (written expr.now)) }
     {
         if !level_of(&expr.node).is_looser(least) {
             return self.expression_node(&expr.node);
@@ -88,7 +88,8 @@ impl Printer {
         least: Level,
         expr: &Expr<Name>,
     ) -> Result<(), NoMemory>
-        ensures { OnOk result (self.new ≡ self.old ++ spaced (token.now ∷ at in_parentheses least (written expr.now))) }
+        ensures { Writes result self.old self.new
+            (token.now ∷ at in_parentheses least (written expr.now)) }
     {
         self.token(token)?;
         self.operand(least, expr)
@@ -96,7 +97,7 @@ impl Printer {
 
     #[cycle(expression)]
     fn expression_node(&mut self, node: &ExprNode<Name>) -> Result<(), NoMemory>
-        ensures { OnOk result (self.new ≡ self.old ++ spaced (written_node node.now).value) }
+        ensures { Writes result self.old self.new (written_node node.now).value }
     {
         match node {
             ExprNode::Int(number) => self.integer(*number),
@@ -134,7 +135,7 @@ impl Printer {
     }
 
     pub fn expression(&mut self, expr: &Expr<Name>) -> Result<(), NoMemory>
-        ensures { OnOk result (self.new ≡ self.old ++ spaced (tokens_of_expression expr.now)) }
+        ensures { Writes result self.old self.new (tokens_of_expression expr.now) }
     {
         self.expression_node(&expr.node)
     }

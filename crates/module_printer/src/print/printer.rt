@@ -1,16 +1,16 @@
 //! Writing tokens.
 
-ghost use Rattle.std.specs.Prelude.{◌≡◌, ◌∷◌, ◌++◌, [], ℕ, List, codes, map, OnOk};
+ghost use Rattle.std.specs.Prelude.{◌≡◌, ◌∷◌, [], ℕ, List, codes, map};
 ghost use Rattle.std.specs.Fmt.{decimal};
+ghost use Rattle.hh_base.specs.Bytes.{line_feed};
 ghost use Rattle.hh_base.specs.Literal.{quoted};
 ghost use Rattle.module_printer.specs.ExpressionTokens.{in_parentheses, tokens_of_integer};
 ghost use Rattle.module_printer.specs.SourceTokens.{behind, comma_separated, tokens_of_handler};
-ghost use Rattle.module_printer.specs.Printed.{spaced};
+ghost use Rattle.module_printer.specs.Printed.{Appends, Writes};
 
-use hh_base::literal::print_literal;
+use hh_base::literal::quote;
 use hh_base::memory::NoMemory;
 use hh_base::text::Text;
-use hh_base::value::Value;
 use std::alloc::Global;
 use std::marker::Model;
 
@@ -34,7 +34,7 @@ pub trait Printable {
     ghost tokens: { Self → List (List ℕ) };
 
     fn print(&self, printer: &mut Printer) -> Result<(), NoMemory>
-        ensures { OnOk result (printer.new ≡ printer.old ++ spaced (tokens self.now)) };
+        ensures { Writes result printer.old printer.new (tokens self.now) };
 }
 
 impl Printer {
@@ -56,21 +56,21 @@ impl Printer {
 
     /// Writes the first token of a line.
     pub fn begin_line(&mut self, text: &str) -> Result<(), NoMemory>
-        ensures { OnOk result (self.new ≡ self.old ++ text.now) }
+        ensures { Appends result self.old self.new text.now }
     {
         self.out.extend_from_slice(text.as_bytes())?;
         Ok(())
     }
 
     pub fn end_line(&mut self) -> Result<(), NoMemory>
-        ensures { OnOk result (self.new ≡ self.old ++ 10 ∷ []) }
+        ensures { Appends result self.old self.new (line_feed ∷ []) }
     {
         self.out.push(b'\n')?;
         Ok(())
     }
 
     pub fn token(&mut self, text: &str) -> Result<(), NoMemory>
-        ensures { OnOk result (self.new ≡ self.old ++ spaced (text.now ∷ [])) }
+        ensures { Writes result self.old self.new (text.now ∷ []) }
     {
         self.out.push(b' ')?;
         self.out.extend_from_slice(text.as_bytes())?;
@@ -78,7 +78,7 @@ impl Printer {
     }
 
     pub fn number(&mut self, number: u64) -> Result<(), NoMemory>
-        ensures { OnOk result (self.new ≡ self.old ++ spaced (decimal number ∷ [])) }
+        ensures { Writes result self.old self.new (decimal number ∷ []) }
     {
         let digits = number.to_string(self.alloc)?;
         self.token(digits.as_str())
@@ -86,7 +86,7 @@ impl Printer {
 
     /// Writes a number with its sign, which is a token of its own.
     pub fn integer(&mut self, number: i64) -> Result<(), NoMemory>
-        ensures { OnOk result (self.new ≡ self.old ++ spaced (tokens_of_integer number)) }
+        ensures { Writes result self.old self.new (tokens_of_integer number) }
     {
         if number < 0 {
             self.token("-")?;
@@ -95,16 +95,17 @@ impl Printer {
     }
 
     pub fn text(&mut self, text: &Text) -> Result<(), NoMemory>
-        ensures { OnOk result (self.new ≡ self.old ++ spaced (quoted text.now ∷ [])) }
+        ensures { Writes result self.old self.new (quoted text.now ∷ []) }
     {
-        let value = Value::Text(text.copy(self.alloc)?);
+        let quoted = quote(self.alloc, text.as_bytes())?;
         self.out.push(b' ')?;
-        print_literal(self.alloc, &value, &mut self.out)
+        self.out.extend_from_slice(&quoted)?;
+        Ok(())
     }
 
     /// Writes a handler of an async statement, if there is one.
     pub fn handler(&mut self, word: &str, text: &Option<Text>) -> Result<(), NoMemory>
-        ensures { OnOk result (self.new ≡ self.old ++ spaced (tokens_of_handler word.now text.now)) }
+        ensures { Writes result self.old self.new (tokens_of_handler word.now text.now) }
     {
         match text {
             None => Ok(()),
@@ -116,7 +117,7 @@ impl Printer {
     }
 
     fn behind_commas<T: Printable>(&mut self, items: &[T]) -> Result<(), NoMemory>
-        ensures { OnOk result (self.new ≡ self.old ++ spaced (behind (codes ",") (map T.tokens items.now))) }
+        ensures { Writes result self.old self.new (behind (codes ",") (map T.tokens items.now)) }
     {
         for item in items {
             self.token(",")?;
@@ -127,7 +128,7 @@ impl Printer {
 
     /// Writes the items with a comma between neighbours.
     pub fn list<T: Printable>(&mut self, items: &[T]) -> Result<(), NoMemory>
-        ensures { OnOk result (self.new ≡ self.old ++ spaced (comma_separated (map T.tokens items.now))) }
+        ensures { Writes result self.old self.new (comma_separated (map T.tokens items.now)) }
     {
         match items.split_first() {
             None => Ok(()),
@@ -140,7 +141,8 @@ impl Printer {
 
     /// Writes the items in parentheses, with a comma between neighbours.
     pub fn parenthesized<T: Printable>(&mut self, items: &[T]) -> Result<(), NoMemory>
-        ensures { OnOk result (self.new ≡ self.old ++ spaced (in_parentheses (comma_separated (map T.tokens items.now)))) }
+        ensures { Writes result self.old self.new
+            (in_parentheses (comma_separated (map T.tokens items.now))) }
     {
         self.token("(")?;
         self.list(items)?;

@@ -1,20 +1,21 @@
 //! Writing statements.
 
-ghost use Rattle.std.specs.Prelude.{◌≡◌, ◌∷◌, ◌++◌, [], codes, map, OnOk};
+ghost use Rattle.std.specs.Prelude.{◌∷◌, ◌++◌, [], codes, map};
 ghost use Rattle.module_printer.specs.SourceTokens.{one_after_another, separated, comma_separated, tokens_of_signal, tokens_of_test, tokens_of_later, tokens_of_delay, tokens_of_answer, tokens_of_call, tokens_of_handlers, tokens_of_async, tokens_of_emission, tokens_of_run, immediate_word, if_there, tokens_of_statement, tokens_of_node, tokens_of_block};
-ghost use Rattle.module_printer.specs.Printed.{spaced};
+ghost use Rattle.module_printer.specs.Printed.{Writes};
 
 use crate::print::printer::Printer;
 use hh_base::memory::NoMemory;
 use hh_base::name::Name;
 use module_tree::source::{
-    AsyncNode, Binding, BlockNode, Delay, ExprAt, NameAt, Later, SignalNode, Statement, StatementNode,
+    AsyncNode, Binding, BlockNode, Delay, ExprAt, Later, NameAt, SignalNode, Statement,
+    StatementNode,
 };
 
 impl Printer {
     /// Writes an expression in parentheses.
     fn test(&mut self, test: &ExprAt<Name>) -> Result<(), NoMemory>
-        ensures { OnOk result (self.new ≡ self.old ++ spaced (tokens_of_test test.now)) }
+        ensures { Writes result self.old self.new (tokens_of_test test.now) }
     {
         self.token("(")?;
         self.expression(&test.expr)?;
@@ -22,7 +23,7 @@ impl Printer {
     }
 
     fn later(&mut self, later: &Later<Name>) -> Result<(), NoMemory>
-        ensures { OnOk result (self.new ≡ self.old ++ spaced (tokens_of_later later.now)) }
+        ensures { Writes result self.old self.new (tokens_of_later later.now) }
     {
         match later {
             Later::Once(test) => self.test(test),
@@ -38,7 +39,7 @@ impl Printer {
     }
 
     fn delay(&mut self, delay: &Delay<Name>) -> Result<(), NoMemory>
-        ensures { OnOk result (self.new ≡ self.old ++ spaced (tokens_of_delay delay.now)) }
+        ensures { Writes result self.old self.new (tokens_of_delay delay.now) }
     {
         match delay {
             Delay::Later(later) => self.later(later),
@@ -50,7 +51,7 @@ impl Printer {
     }
 
     fn emitted(&mut self, value: &Option<ExprAt<Name>>) -> Result<(), NoMemory>
-        ensures { OnOk result (self.new ≡ self.old ++ spaced (if_there tokens_of_test value.now)) }
+        ensures { Writes result self.old self.new (if_there tokens_of_test value.now) }
     {
         match value {
             None => Ok(()),
@@ -65,7 +66,8 @@ impl Printer {
         signal: &NameAt<Name>,
         value: &Option<ExprAt<Name>>,
     ) -> Result<(), NoMemory>
-        ensures { OnOk result (self.new ≡ self.old ++ spaced (tokens_of_emission word.now signal.now value.now)) }
+        ensures { Writes result self.old self.new
+            (tokens_of_emission word.now signal.now value.now) }
     {
         self.token(word)?;
         self.token(signal.name.as_str())?;
@@ -74,7 +76,7 @@ impl Printer {
     }
 
     fn run(&mut self, callee: &NameAt<Name>, bindings: &[Binding<Name>]) -> Result<(), NoMemory>
-        ensures { OnOk result (self.new ≡ self.old ++ spaced (tokens_of_run callee.now bindings.now)) }
+        ensures { Writes result self.old self.new (tokens_of_run callee.now bindings.now) }
     {
         self.token("run")?;
         self.token(callee.name.as_str())?;
@@ -83,7 +85,7 @@ impl Printer {
     }
 
     fn answered(&mut self, signal: &Option<NameAt<Name>>) -> Result<(), NoMemory>
-        ensures { OnOk result (self.new ≡ self.old ++ spaced (if_there tokens_of_answer signal.now)) }
+        ensures { Writes result self.old self.new (if_there tokens_of_answer signal.now) }
     {
         match signal {
             None => Ok(()),
@@ -96,7 +98,7 @@ impl Printer {
     }
 
     fn handlers(&mut self, node: &AsyncNode<Name>) -> Result<(), NoMemory>
-        ensures { OnOk result (self.new ≡ self.old ++ spaced (tokens_of_handlers node.now)) }
+        ensures { Writes result self.old self.new (tokens_of_handlers node.now) }
     {
         self.handler("kill", &node.kill)?;
         self.handler("suspend", &node.suspend)?;
@@ -104,7 +106,7 @@ impl Printer {
     }
 
     fn call(&mut self, node: &AsyncNode<Name>) -> Result<(), NoMemory>
-        ensures { OnOk result (self.new ≡ self.old ++ spaced (tokens_of_call node.now)) }
+        ensures { Writes result self.old self.new (tokens_of_call node.now) }
     {
         self.token("call")?;
         self.token(node.body.name.as_str())?;
@@ -112,7 +114,7 @@ impl Printer {
     }
 
     fn asynchronous(&mut self, node: &AsyncNode<Name>) -> Result<(), NoMemory>
-        ensures { OnOk result (self.new ≡ self.old ++ spaced (tokens_of_async node.now)) }
+        ensures { Writes result self.old self.new (tokens_of_async node.now) }
     {
         self.token("async")?;
         self.answered(&node.signal)?;
@@ -123,14 +125,14 @@ impl Printer {
 
     /// Writes a statement of one word.
     fn word(&mut self, word: &str) -> Result<(), NoMemory>
-        ensures { OnOk result (self.new ≡ self.old ++ spaced (word.now ∷ codes ";" ∷ [])) }
+        ensures { Writes result self.old self.new (word.now ∷ codes ";" ∷ []) }
     {
         self.token(word)?;
         self.token(";")
     }
 
     fn immediate(&mut self, immediate: bool) -> Result<(), NoMemory>
-        ensures { OnOk result (self.new ≡ self.old ++ spaced (immediate_word immediate)) }
+        ensures { Writes result self.old self.new (immediate_word immediate) }
     {
         if immediate {
             self.token("immediate")
@@ -140,7 +142,8 @@ impl Printer {
     }
 
     fn wait(&mut self, delay: &Delay<Name>) -> Result<(), NoMemory>
-        ensures { OnOk result (self.new ≡ self.old ++ spaced (codes "await" ∷ (tokens_of_delay delay.now ++ codes ";" ∷ []))) }
+        ensures { Writes result self.old self.new
+            (codes "await" ∷ (tokens_of_delay delay.now ++ codes ";" ∷ [])) }
     {
         self.token("await")?;
         self.delay(delay)?;
@@ -149,7 +152,7 @@ impl Printer {
 
     /// Writes `break TRAP ;`.
     fn leave(&mut self, trap: &NameAt<Name>) -> Result<(), NoMemory>
-        ensures { OnOk result (self.new ≡ self.old ++ spaced (codes "break" ∷ trap.now.name ∷ codes ";" ∷ [])) }
+        ensures { Writes result self.old self.new (codes "break" ∷ trap.now.name ∷ codes ";" ∷ []) }
     {
         self.token("break")?;
         self.word(trap.name.as_str())
@@ -157,7 +160,8 @@ impl Printer {
 
     #[cycle(statement)]
     fn branches(&mut self, blocks: &[BlockNode<Name>]) -> Result<(), NoMemory>
-        ensures { OnOk result (self.new ≡ self.old ++ spaced (separated (codes "par") (map tokens_of_block blocks.now))) }
+        ensures { Writes result self.old self.new
+            (separated (codes "par") (map tokens_of_block blocks.now)) }
     {
         let Some((first, others)) = blocks.split_first() else {
             return Ok(());
@@ -172,7 +176,8 @@ impl Printer {
 
     #[cycle(statement)]
     fn when(&mut self, test: &ExprAt<Name>, then: &BlockNode<Name>) -> Result<(), NoMemory>
-        ensures { OnOk result (self.new ≡ self.old ++ spaced (codes "if" ∷ (tokens_of_test test.now ++ tokens_of_block then.now))) }
+        ensures { Writes result self.old self.new
+            (codes "if" ∷ (tokens_of_test test.now ++ tokens_of_block then.now)) }
     {
         self.token("if")?;
         self.test(test)?;
@@ -181,7 +186,7 @@ impl Printer {
 
     #[cycle(statement)]
     fn otherwise(&mut self, block: &BlockNode<Name>) -> Result<(), NoMemory>
-        ensures { OnOk result (self.new ≡ self.old ++ spaced (codes "else" ∷ tokens_of_block block.now)) }
+        ensures { Writes result self.old self.new (codes "else" ∷ tokens_of_block block.now) }
     {
         self.token("else")?;
         self.block(block)
@@ -195,7 +200,8 @@ impl Printer {
         delay: &Delay<Name>,
         block: &BlockNode<Name>,
     ) -> Result<(), NoMemory>
-        ensures { OnOk result (self.new ≡ self.old ++ spaced (word.now ∷ (tokens_of_delay delay.now ++ tokens_of_block block.now))) }
+        ensures { Writes result self.old self.new
+            (word.now ∷ (tokens_of_delay delay.now ++ tokens_of_block block.now)) }
     {
         self.token(word)?;
         self.delay(delay)?;
@@ -204,7 +210,9 @@ impl Printer {
 
     #[cycle(statement)]
     fn do_every(&mut self, block: &BlockNode<Name>, later: &Later<Name>) -> Result<(), NoMemory>
-        ensures { OnOk result (self.new ≡ self.old ++ spaced ((codes "do" ∷ tokens_of_block block.now) ++ (codes "every" ∷ tokens_of_later later.now) ++ codes ";" ∷ [])) }
+        ensures { Writes result self.old self.new
+            ((codes "do" ∷ tokens_of_block block.now) ++ (codes "every" ∷ tokens_of_later later.now)
+            ++ codes ";" ∷ []) }
     {
         self.token("do")?;
         self.block(block)?;
@@ -220,7 +228,9 @@ impl Printer {
         test: &ExprAt<Name>,
         block: &BlockNode<Name>,
     ) -> Result<(), NoMemory>
-        ensures { OnOk result (self.new ≡ self.old ++ spaced (codes "suspend" ∷ (immediate_word immediate ++ tokens_of_test test.now ++ tokens_of_block block.now))) }
+        ensures { Writes result self.old self.new
+            (codes "suspend" ∷ (immediate_word immediate ++ tokens_of_test test.now
+            ++ tokens_of_block block.now)) }
     {
         self.token("suspend")?;
         self.immediate(immediate)?;
@@ -230,7 +240,9 @@ impl Printer {
 
     #[cycle(statement)]
     fn local(&mut self, signals: &[SignalNode], block: &BlockNode<Name>) -> Result<(), NoMemory>
-        ensures { OnOk result (self.new ≡ self.old ++ spaced (codes "signal" ∷ (comma_separated (map tokens_of_signal signals.now) ++ tokens_of_block block.now))) }
+        ensures { Writes result self.old self.new
+            (codes "signal" ∷ (comma_separated (map tokens_of_signal signals.now)
+            ++ tokens_of_block block.now)) }
     {
         self.token("signal")?;
         self.list(signals)?;
@@ -239,7 +251,8 @@ impl Printer {
 
     #[cycle(statement)]
     fn trap(&mut self, name: &Name, block: &BlockNode<Name>) -> Result<(), NoMemory>
-        ensures { OnOk result (self.new ≡ self.old ++ spaced (codes "trap" ∷ name.now ∷ tokens_of_block block.now)) }
+        ensures { Writes result self.old self.new
+            (codes "trap" ∷ name.now ∷ tokens_of_block block.now) }
     {
         self.token("trap")?;
         self.token(name.as_str())?;
@@ -248,7 +261,7 @@ impl Printer {
 
     #[cycle(statement)]
     fn loop_of(&mut self, block: &BlockNode<Name>) -> Result<(), NoMemory>
-        ensures { OnOk result (self.new ≡ self.old ++ spaced (codes "loop" ∷ tokens_of_block block.now)) }
+        ensures { Writes result self.old self.new (codes "loop" ∷ tokens_of_block block.now) }
     {
         self.token("loop")?;
         self.block(block)
@@ -256,7 +269,8 @@ impl Printer {
 
     #[cycle(statement)]
     fn fork(&mut self, blocks: &[BlockNode<Name>]) -> Result<(), NoMemory>
-        ensures { OnOk result (self.new ≡ self.old ++ spaced (codes "fork" ∷ separated (codes "par") (map tokens_of_block blocks.now))) }
+        ensures { Writes result self.old self.new
+            (codes "fork" ∷ separated (codes "par") (map tokens_of_block blocks.now)) }
     {
         self.token("fork")?;
         self.branches(blocks)
@@ -264,7 +278,7 @@ impl Printer {
 
     #[cycle(statement)]
     pub fn statement(&mut self, statement: &Statement<Name>) -> Result<(), NoMemory>
-        ensures { OnOk result (self.new ≡ self.old ++ spaced (tokens_of_statement statement.now)) }
+        ensures { Writes result self.old self.new (tokens_of_statement statement.now) }
     {
         match statement {
             Statement::Nothing => self.word("nothing"),
@@ -296,14 +310,14 @@ impl Printer {
 
     #[cycle(statement)]
     fn node(&mut self, node: &StatementNode<Name>) -> Result<(), NoMemory>
-        ensures { OnOk result (self.new ≡ self.old ++ spaced (tokens_of_node node.now)) }
+        ensures { Writes result self.old self.new (tokens_of_node node.now) }
     {
         self.statement(&node.what)
     }
 
     #[cycle(statement)]
     fn nodes(&mut self, nodes: &[StatementNode<Name>]) -> Result<(), NoMemory>
-        ensures { OnOk result (self.new ≡ self.old ++ spaced (one_after_another (map tokens_of_node nodes.now))) }
+        ensures { Writes result self.old self.new (one_after_another (map tokens_of_node nodes.now)) }
     {
         for node in nodes {
             self.node(node)?;
@@ -314,7 +328,7 @@ impl Printer {
     /// Writes a block with its braces.
     #[cycle(statement)]
     pub fn block(&mut self, block: &BlockNode<Name>) -> Result<(), NoMemory>
-        ensures { OnOk result (self.new ≡ self.old ++ spaced (tokens_of_block block.now)) }
+        ensures { Writes result self.old self.new (tokens_of_block block.now) }
     {
         self.token("{")?;
         self.nodes(block.statements.as_slice())?;

@@ -22,19 +22,22 @@ use Rattle.expression_reader.proofs.written.Expressions.{tells_name, tells_quote
 
 -- ---- lists and options
 
-pub all_pass : {A : Type 0} (test : A → Bool) (xs : List A) → AllByRecursion (λ a. test a ≡ true) xs → list_all test xs ≡ true
+pub all_pass : {A : Type 0} (test : A → Bool) (xs : List A) → AllByRecursion (λ a. test a ≡ true) xs
+    → list_all test xs ≡ true
 all_pass test [] h = refl
 all_pass test (a ∷ xs) h = both h.0 (all_pass test xs h.1)
 
 module _ {A : Type 0} {P : A → Type 0} {item : Lang A} (h : Keeps P item) where
   -- and there is one
   pub keeps_listed : Keeps (λ xs. (is_filled xs ≡ true) × AllByRecursion P xs) (eg.listed item)
-  keeps_listed = keeps_then h (λ a p. keeps_then (keeps_many (keeps_after (λ n. h))) (λ xs q. keeps_pure (refl, (p, q))))
+  keeps_listed = keeps_then h (λ a p. keeps_then (keeps_many (keeps_after (λ n. h)))
+      (λ xs q. keeps_pure (refl, (p, q))))
 
   pub keeps_listed_or_none : Keeps (AllByRecursion P) (eg.listed_or_none item)
   keeps_listed_or_none = keeps_or (keeps_more (λ xs q. q.1) keeps_listed) (keeps_pure tt)
 
-pub keeps_if_some : {A : Type 0} {P : A → Type 0} {part : Lang A} → Keeps P part → Keeps (λ x. IfSome x P) (eg.optional part)
+pub keeps_if_some : {A : Type 0} {P : A → Type 0} {part : Lang A} → Keeps P part
+    → Keeps (λ x. IfSome x P) (eg.optional part)
 keeps_if_some h = keeps_or (keeps_then h (λ a p. keeps_pure p)) (keeps_pure tt)
 
 module _ {A : Type 0} {test : A → Bool} {part : Lang A} (h : Keeps (λ a. test a ≡ true) part) where
@@ -50,7 +53,8 @@ pub named : Keeps (λ n. fits_name n ≡ true) eg.named
 named = keeps_then name (λ n h. keeps_pure h)
 
 pub valued : Keeps (λ k. is_valued k ≡ true) g.valued
-valued = keeps_or (keeps_after (λ n. keeps_pure refl)) (keeps_or (keeps_after (λ n. keeps_pure refl)) (keeps_after (λ n. keeps_pure refl)))
+valued = keeps_or (keeps_after (λ n. keeps_pure refl)) (keeps_or (keeps_after (λ n. keeps_pure refl))
+    (keeps_after (λ n. keeps_pure refl)))
 
 pub type : Keeps (λ (k : Kind). Unit {0}) g.kind
 type = record { of = λ a text ks lawful few h. tt }
@@ -68,14 +72,16 @@ literal_number = keeps_then (keeps (tells_number 0 eg.largest)) (λ n h. keeps_p
     below n h = le-leb (suc n.1) (2 ^ 63) (omega (arith, h.1))
 
 literal_negative : Keeps (λ v. is_written_value v ≡ true) g.literal_negative
-literal_negative = keeps_after (λ q. keeps_then (keeps (tells_number 0 (2 ^ 63))) (λ n h. keeps_pure (above n.1 h.1)))
+literal_negative = keeps_after (λ q. keeps_then (keeps (tells_number 0 (2 ^ 63)))
+    (λ n h. keeps_pure (above n.1 h.1)))
   where
     above : (n : ℕ) → n ≤ 2 ^ 63 → is_written_integer (neg_ℤ (pos n)) ≡ true
     above zero h = refl
     above (suc n) h = le-leb (suc n) (2 ^ 63) h
 
 literal : Keeps (λ v. is_written_value v ≡ true) g.literal
-literal = keeps_or (literal_by w.True true) (keeps_or (literal_by w.False false) (keeps_or literal_text (keeps_or literal_number literal_negative)))
+literal = keeps_or (literal_by w.True true) (keeps_or (literal_by w.False false)
+    (keeps_or literal_text (keeps_or literal_number literal_negative)))
 
 -- ---- signals
 
@@ -86,10 +92,13 @@ any_combine : Keeps (λ (c : Option CombineWord). Unit {0}) (eg.optional g.behin
 any_combine = record { of = λ a text ks lawful few h. tt }
 
 pub signal : Keeps (λ s. fits_signal s ≡ true) g.signal
-signal = keeps_then name (λ n h. keeps_then any_kind (λ k (u : Unit {0}). keeps_then (keeps_optional (keeps_after (λ q. literal))) (λ v e. keeps_then any_combine (λ c (u : Unit {0}). keeps_pure (both h e)))))
+signal = keeps_then name
+    (λ n h. keeps_then any_kind (λ k (u : Unit {0}). keeps_then (keeps_optional (keeps_after (λ q. literal)))
+    (λ v e. keeps_then any_combine (λ c (u : Unit {0}). keeps_pure (both h e)))))
 
 direction : Keeps (λ d. is_interface d ≡ true) g.direction
-direction = keeps_or (keeps_after (λ n. keeps_pure refl)) (keeps_or (keeps_after (λ n. keeps_pure refl)) (keeps_after (λ n. keeps_pure refl)))
+direction = keeps_or (keeps_after (λ n. keeps_pure refl)) (keeps_or (keeps_after (λ n. keeps_pure refl))
+    (keeps_after (λ n. keeps_pure refl)))
 
 pub interface : Keeps (λ d. fits_interface d ≡ true) g.interface
 interface = keeps_then direction (λ d h. keeps_then signal (λ s e. keeps_pure (both h e)))

@@ -1,4 +1,5 @@
--- What a text has as delays passes the tests of source trees, in which no more brackets are open at once than may be.
+-- What a text has as delays passes the tests of source trees, in which no more brackets are open at once than
+-- may be.
 use Rattle.std.proofs.Common.{ℕ, Bool}
 use Rattle.std.specs.Prelude.{nat_le, ◌&&◌}
 use Rattle.std.proofs.lemmas.Bool.{le-leb}
@@ -22,20 +23,26 @@ times : (room : ℕ) → Keeps (Fits fits_times (λ c. nesting_at c.1) room) (g.
 unfolding fits_times
 times room =
     keeps_then (keeps (tells_number 1 64)) (λ n h. keeps_after (λ q. keeps_then (outermost room)
-    (λ a e. keeps_pure (record { passes = both (both (le-leb 1 n.1 h.0) (le-leb n.1 64 h.1)) e.passes; within = e.within }))))
+    (λ a e. keeps_pure (record {
+      passes = both (both (le-leb 1 n.1 h.0) (le-leb n.1 64 h.1)) e.passes;
+      within = e.within;
+    }))))
 
 count : (room : ℕ) → Keeps (Fits fits_later nesting_of_later room) (g.count room)
 unfolding fits_times
-count room = keeps_after (λ q. keeps_then (keeps_round times room) (λ c h. keeps_pure (record { passes = h.passes; within = h.within })))
+count room = keeps_after (λ q. keeps_then (keeps_round times room)
+    (λ c h. keeps_pure (record { passes = h.passes; within = h.within })))
 
 pub plain_delay : (room : ℕ) → Keeps (Fits fits_later nesting_of_later room) (g.later room)
 plain_delay room = keeps_or (once room) (count room)
 
 plainly : (room : ℕ) → Keeps (Fits fits_delay nesting_of_delay room) (g.later_delay room)
-plainly room = keeps_then (plain_delay room) (λ a h. keeps_pure (record { passes = h.passes; within = h.within }))
+plainly room = keeps_then (plain_delay room) (λ a h. keeps_pure
+    (record { passes = h.passes; within = h.within }))
 
 immediate : (room : ℕ) → Keeps (Fits fits_delay nesting_of_delay room) (g.immediate room)
-immediate room = keeps_after (λ q. keeps_then (tested room) (λ a h. keeps_pure (record { passes = h.passes; within = h.within })))
+immediate room = keeps_after
+    (λ q. keeps_then (tested room) (λ a h. keeps_pure (record { passes = h.passes; within = h.within })))
 
 pub any_delay : (room : ℕ) → Keeps (Fits fits_delay nesting_of_delay room) (g.delay room)
 any_delay room = keeps_or (immediate room) (plainly room)

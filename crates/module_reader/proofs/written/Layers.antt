@@ -20,13 +20,20 @@ module _ {A : Type 0} (step : s.Statement-F Name A A A → A) (join : s.BlockNod
   of_statement = fold-Statement Name A A A step join (λ x. x.what)
 
   -- the statement's parts, with what the recursion makes of them in their places
-  abbrev pub of_statement_parts : s.Statement-F Name (Statement Name) (BlockNode Name) (StatementNode Name) → s.Statement-F Name A A A
-  of_statement_parts = map-Statement Name (Statement Name) (BlockNode Name) (StatementNode Name) A A A of_statement of_block of_statement_node
+  abbrev pub of_statement_parts : s.Statement-F Name (Statement Name) (BlockNode Name) (StatementNode Name)
+      → s.Statement-F Name A A A
+  of_statement_parts = map-Statement Name (Statement Name) (BlockNode Name)
+      (StatementNode Name) A A A of_statement of_block of_statement_node
 
-  pub statement_layer : (p : Pos) (parts : s.Statement-F Name (Statement Name) (BlockNode Name) (StatementNode Name)) {x : Statement Name} → roll-Statement Name parts ≡ x
-      → of_statement_node (roll-StatementNode Name (record { pos = p; what = x })) ≡ step (of_statement_parts parts)
+  pub statement_layer : (p : Pos) (parts : s.Statement-F Name (Statement Name) (BlockNode Name)
+      (StatementNode Name)) {x : Statement Name} → roll-Statement Name parts ≡ x
+      → of_statement_node (roll-StatementNode Name (record { pos = p; what = x }))
+      ≡ step (of_statement_parts parts)
   statement_layer p parts {x} rolls =
-      fold-roll-StatementNode Name A A A step join (λ x. x.what) (record { pos = p; what = x }) ∙ ap of_statement (sym rolls) ∙ fold-roll-Statement Name A A A step join (λ x. x.what) parts
+      fold-roll-StatementNode Name A A A step join (λ x. x.what) (record { pos = p; what = x })
+      ∙ ap of_statement (sym rolls) ∙ fold-roll-Statement Name A A A step join (λ x. x.what) parts
 
-  pub block_layer : (n : ℕ) (xs : List (StatementNode Name)) → of_block (block_at n xs) ≡ join (record { pos = pos_at n; statements = map of_statement_node xs })
-  block_layer n xs = fold-roll-BlockNode Name A A A step join (λ x. x.what) (record { pos = pos_at n; statements = xs })
+  pub block_layer : (n : ℕ) (xs : List (StatementNode Name))
+      → of_block (block_at n xs) ≡ join (record { pos = pos_at n; statements = map of_statement_node xs })
+  block_layer n xs = fold-roll-BlockNode Name A A A step join (λ x. x.what)
+      (record { pos = pos_at n; statements = xs })

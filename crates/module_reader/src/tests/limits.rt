@@ -1,7 +1,7 @@
 //! Texts at the limits of nesting and of sizes, as the pieces that they are made of, each so often.
 
 use super::{is_read, is_refused, repeated};
-use std::alloc::Global;
+use std::alloc::{AllocError, Global};
 use std::process::Abort;
 use std::test::Fail;
 
@@ -38,11 +38,7 @@ const TOO_DEEP: [(&[(&str, usize)], &str, u32); 7] = [
         "DeepNesting",
         139,
     ),
-    (
-        &[("module M() ", 1), ("{", 129)],
-        "DeepNesting",
-        139,
-    ),
+    (&[("module M() ", 1), ("{", 129)], "DeepNesting", 139),
     (&[("module M() ", 1), ("{", 128)], "EndOfText", 139),
     (
         &[("module M() ", 1), ("{", 128), ("if {", 1), ("}", 128)],
@@ -241,11 +237,7 @@ const LONGEST: [&[(&str, usize)]; 2] = [
 
 /// Names and texts that are one byte longer.
 const TOO_LONG: [(&[(&str, usize)], &str, u32); 3] = [
-    (
-        &[("module ", 1), ("a", 256), ("() {}", 1)],
-        "NameLong",
-        7,
-    ),
+    (&[("module ", 1), ("a", 256), ("() {}", 1)], "NameLong", 7),
     (&[("module M() { ", 1), ("a", 256)], "NameLong", 13),
     (
         &[("module M(in T: text = \"", 1), ("a", 4097), ("\") {}", 1)],
@@ -275,48 +267,39 @@ fn refuse_all(
 }
 
 #[test]
-fn keeps_depth(rt: HostRuntime) -> Result<(), Fail> {
-    read_all(&rt, rt.alloc(), &DEEPEST)?;
-    refuse_all(&rt, rt.alloc(), &TOO_DEEP)
+fn keeps_limits(rt: HostRuntime) -> Result<(), Fail> {
+    let alloc = rt.alloc();
+    read_all(&rt, alloc, &DEEPEST)?;
+    refuse_all(&rt, alloc, &TOO_DEEP)?;
+    read_all(&rt, alloc, &LARGEST)?;
+    refuse_all(&rt, alloc, &TOO_LARGE)?;
+    read_all(&rt, alloc, &LONGEST)?;
+    refuse_all(&rt, alloc, &TOO_LONG)
+}
+
+/// `module M() { ` and this statement, in so many brackets more.
+fn nested(alloc: Global, statement: &str, brackets: usize) -> Result<String, AllocError> {
+    let pieces = [
+        ("module M() { ", 1),
+        ("{", brackets),
+        (statement, 1),
+        ("}", brackets),
+        (" }", 1),
+    ];
+    repeated(alloc, &pieces)
 }
 
 #[test]
 fn keeps_depth_at_each_bracket(rt: HostRuntime) -> Result<(), Fail> {
     let alloc = rt.alloc();
     for (statement, pos) in OPENINGS {
-        let pieces = [
-            ("module M() { ", 1),
-            ("{", 126),
-            (statement, 1),
-            ("}", 126),
-            (" }", 1),
-        ];
-        let deepest = repeated(alloc, &pieces)?;
+        let deepest = nested(alloc, statement, 126)?;
         assert!(rt; is_read(alloc, deepest.as_str()), "{statement}");
-        let pieces = [
-            ("module M() { ", 1),
-            ("{", 127),
-            (statement, 1),
-            ("}", 127),
-            (" }", 1),
-        ];
-        let deeper = repeated(alloc, &pieces)?;
+        let deeper = nested(alloc, statement, 127)?;
         assert!(rt;
             is_refused(alloc, deeper.as_str(), "DeepNesting", pos),
             "{statement}"
         );
     }
     Ok(())
-}
-
-#[test]
-fn keeps_size(rt: HostRuntime) -> Result<(), Fail> {
-    read_all(&rt, rt.alloc(), &LARGEST)?;
-    refuse_all(&rt, rt.alloc(), &TOO_LARGE)
-}
-
-#[test]
-fn keeps_length(rt: HostRuntime) -> Result<(), Fail> {
-    read_all(&rt, rt.alloc(), &LONGEST)?;
-    refuse_all(&rt, rt.alloc(), &TOO_LONG)
 }

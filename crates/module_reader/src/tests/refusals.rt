@@ -201,14 +201,15 @@ const ENDS: [(&str, u32); 14] = [
     ("host f(): int", 13),
 ];
 
-const NO_MODULE: [&str; 7] = [
-    "",
-    "  // x",
-    " \n",
-    "/**/",
-    "body f(): int { 1 }",
-    "host f(): int; host g(): bool;",
-    "body f(): int { 1 } // module M() {}",
+/// Texts without a module.
+const NO_MODULE: [(&str, u32); 7] = [
+    ("", 0),
+    ("  // x", 0),
+    (" \n", 0),
+    ("/**/", 0),
+    ("body f(): int { 1 }", 0),
+    ("host f(): int; host g(): bool;", 0),
+    ("body f(): int { 1 } // module M() {}", 0),
 ];
 
 const LARGE_NUMBERS: [(&str, u32); 7] = [
@@ -242,11 +243,7 @@ const NO_TOKENS: [(&str, &str, u32); 10] = [
     ("module M() { if } /* ", "CommentOpen", 18),
     ("module M() {} /*/", "CommentOpen", 14),
     ("module M() { pause; } \"", "TextOpen", 22),
-    (
-        "module M() { async call f() kill \"k\\",
-        "TextOpen",
-        33,
-    ),
+    ("module M() { async call f() kill \"k\\", "TextOpen", 33),
     (
         "module M() { async call f() kill \"k\t\"; }",
         "TextOpen",
@@ -276,34 +273,18 @@ fn refuse_all(rt: &impl Abort, alloc: Global, rows: &[(&str, u32)], kind: &str) 
 }
 
 #[test]
-fn refuses_tokens_that_may_not_stand_there(rt: HostRuntime) {
-    refuse_all(&rt, rt.alloc(), &TOPS, "Unexpected");
-    refuse_all(&rt, rt.alloc(), &SIGNALS, "Unexpected");
-    refuse_all(&rt, rt.alloc(), &STATEMENTS, "Unexpected");
-    refuse_all(&rt, rt.alloc(), &DELAYS, "Unexpected");
-    refuse_all(&rt, rt.alloc(), &CALLS, "Unexpected");
-    refuse_all(&rt, rt.alloc(), &EXPRESSIONS, "Unexpected");
-}
-
-#[test]
-fn refuses_texts_that_end(rt: HostRuntime) {
-    refuse_all(&rt, rt.alloc(), &ENDS, "EndOfText");
-}
-
-#[test]
-fn refuses_texts_without_a_module(rt: HostRuntime) {
-    for text in NO_MODULE {
-        assert!(rt;
-            is_refused(rt.alloc(), text, "NoModule", 0),
-            "{text}"
-        );
-    }
-}
-
-#[test]
-fn refuses_numbers(rt: HostRuntime) {
-    refuse_all(&rt, rt.alloc(), &LARGE_NUMBERS, "NumberLarge");
-    refuse_all(&rt, rt.alloc(), &BAD_COUNTS, "BadCount");
+fn refuses_texts(rt: HostRuntime) {
+    let alloc = rt.alloc();
+    refuse_all(&rt, alloc, &TOPS, "Unexpected");
+    refuse_all(&rt, alloc, &SIGNALS, "Unexpected");
+    refuse_all(&rt, alloc, &STATEMENTS, "Unexpected");
+    refuse_all(&rt, alloc, &DELAYS, "Unexpected");
+    refuse_all(&rt, alloc, &CALLS, "Unexpected");
+    refuse_all(&rt, alloc, &EXPRESSIONS, "Unexpected");
+    refuse_all(&rt, alloc, &ENDS, "EndOfText");
+    refuse_all(&rt, alloc, &NO_MODULE, "NoModule");
+    refuse_all(&rt, alloc, &LARGE_NUMBERS, "NumberLarge");
+    refuse_all(&rt, alloc, &BAD_COUNTS, "BadCount");
 }
 
 #[test]

@@ -49,19 +49,25 @@ abbrev pub Each : {A B : Type 0} → (A → B) → (A → Lexemes) → Lang A �
 Each f words item bs = AllByRecursion (λ b. Lifts (Same f b) item (words b)) bs
 
 module _ {A B : Type 0} (f : A → B) (words : A → Lexemes) (item : Lang A) where
-  behind_commas : (bs : List A) → Each f words item bs → AllByRecursion (λ b. Lifts (Same f b) (eg.behind_comma item) (codes "," ∷ words b)) bs
+  behind_commas : (bs : List A) → Each f words item bs → AllByRecursion
+      (λ b. Lifts (Same f b) (eg.behind_comma item) (codes "," ∷ words b)) bs
   behind_commas [] h = tt
   behind_commas (b ∷ bs) h = (lifts_then (lifts_punct punct.Comma) (λ n u. h.0), behind_commas bs h.1)
 
 module _ {A B : Type 0} {f : A → B} (words : A → Lexemes) {item : Lang A} where
-  pub lifts_listed : (b : A) (bs : List A) → Each f words item (b ∷ bs) → Lifts (Same (map f) (b ∷ bs)) (eg.listed item) (comma_separated (map words (b ∷ bs)))
-  lifts_listed b bs h = lifts_then h.0 (λ a e. lifts_made (lifts_many words (λ ts. codes "," ∷ ts) bs (behind_commas f words item bs h.1)) (λ more k. λ i. e i ∷ k i))
+  pub lifts_listed : (b : A) (bs : List A) → Each f words item (b ∷ bs)
+      → Lifts (Same (map f) (b ∷ bs)) (eg.listed item) (comma_separated (map words (b ∷ bs)))
+  lifts_listed b bs h =
+      lifts_then h.0 (λ a e. lifts_made (lifts_many words (λ ts. codes "," ∷ ts) bs
+      (behind_commas f words item bs h.1)) (λ more k. λ i. e i ∷ k i))
 
-  pub lifts_listed_or_none : (bs : List A) → Each f words item bs → Lifts (Same (map f) bs) (eg.listed_or_none item) (comma_separated (map words bs))
+  pub lifts_listed_or_none : (bs : List A) → Each f words item bs
+      → Lifts (Same (map f) bs) (eg.listed_or_none item) (comma_separated (map words bs))
   lifts_listed_or_none [] h = lifts_right (lifts_pure refl)
   lifts_listed_or_none (b ∷ bs) h = lifts_left (lifts_listed b bs h)
 
-module _ {A B : Type 0} (f : A → B) (words : A → Lexemes) (item : Lang A) (test : A → Bool) (h : (b : A) → test b ≡ true → Lifts (Same f b) item (words b)) where
+module _ {A B : Type 0} (f : A → B) (words : A → Lexemes) (item : Lang A) (test : A → Bool) (h : (b : A)
+    → test b ≡ true → Lifts (Same f b) item (words b)) where
   -- of a list whose items pass a test
   pub each_of : (bs : List A) → list_all test bs ≡ true → Each f words item bs
   each_of [] e = tt
@@ -69,8 +75,10 @@ module _ {A B : Type 0} (f : A → B) (words : A → Lexemes) (item : Lang A) (t
 
 -- ---- names
 
-pub named_lifts : (n : NameAt Name) → fits_name n ≡ true → Lifts (Same placeless_name n) eg.named (n.name ∷ [])
-named_lifts n h = lifts_made (lifts_name n.name h) (λ a e. ap (λ (z : Name). let m : NameAt Name = record { pos = pos_at 0; name = z } in m) e)
+pub named_lifts : (n : NameAt Name) → fits_name n ≡ true → Lifts (Same placeless_name n) eg.named
+    (n.name ∷ [])
+named_lifts n h = lifts_made (lifts_name n.name h) (λ a e. ap
+    (λ (z : Name). let m : NameAt Name = record { pos = pos_at 0; name = z } in m) e)
 
 -- ---- kinds
 
@@ -104,29 +112,45 @@ kind_lifts kind.Text = lifts_left (colon_lifts kind.Text)
 literal_lifts : (v : Value) → is_written_value v ≡ true → Lifts (Is v) g.literal (tokens_of_value v)
 literal_lifts value.Unit h = absurd (let no : ⊥ = cc in no)
 literal_lifts (value.Bool true) h = lifts_left (lifts_made (lifts_keyword w.True) (λ n u. refl))
-literal_lifts (value.Bool false) h = lifts_right (lifts_left (lifts_made (lifts_keyword w.False) (λ n u. refl)))
-literal_lifts (value.Text t) h = lifts_right (lifts_right (lifts_left (lifts_made (lifts_quoted t (text_of t h)) (λ q e. ap (λ (z : List ℕ). value.Text z) e))))
+literal_lifts (value.Bool false) h = lifts_right (lifts_left
+    (lifts_made (lifts_keyword w.False) (λ n u. refl)))
+literal_lifts (value.Text t) h =
+    lifts_right (lifts_right
+    (lifts_left (lifts_made (lifts_quoted t (text_of t h)) (λ q e. ap (λ (z : List ℕ). value.Text z) e))))
 literal_lifts (value.Int (pos n)) h =
     let small : n < 2 ^ 63 = ltb-true n (2 ^ 63) h in
-    lifts_right (lifts_right (lifts_right (lifts_left (lifts_made (lifts_number 0 eg.largest n (omega arith) (omega (arith, small)) (omega (arith, small))) (λ q e. ap (λ (z : ℕ). value.Int (pos z)) e)))))
+    lifts_right (lifts_right
+    (lifts_right (lifts_left
+    (lifts_made (lifts_number 0 eg.largest n (omega arith) (omega (arith, small)) (omega (arith, small)))
+    (λ q e. ap (λ (z : ℕ). value.Int (pos z)) e)))))
 literal_lifts (value.Int (negsuc n)) h =
     let small : n < 2 ^ 63 = ltb-true n (2 ^ 63) h in
     lifts_right (lifts_right (lifts_right (lifts_right
     (lifts_then (lifts_punct punct.Minus)
-    (λ m u. lifts_made (lifts_number 0 (2 ^ 63) (suc n) (omega arith) (omega (arith, small)) (omega (arith, small))) (λ q e. ap (λ (z : ℕ). value.Int (neg_ℤ (pos z))) e))))))
+    (λ m u. lifts_made (lifts_number 0 (2 ^ 63) (suc n) (omega arith) (omega (arith, small))
+    (omega (arith, small))) (λ q e. ap (λ (z : ℕ). value.Int (neg_ℤ (pos z))) e))))))
 
-first_lifts : (v : Option Value) → tests.if_there is_written_value v ≡ true → Lifts (Is v) (eg.optional g.behind_equal) (if_there tokens_of_first v)
+first_lifts : (v : Option Value) → tests.if_there is_written_value v ≡ true
+    → Lifts (Is v) (eg.optional g.behind_equal) (if_there tokens_of_first v)
 first_lifts None h = lifts_right (lifts_pure refl)
-first_lifts (Some v) h = lifts_left (lifts_made (lifts_then (lifts_punct punct.Equal) (λ n u. literal_lifts v h)) (λ a e. ap Some e))
+first_lifts (Some v) h =
+    lifts_left (lifts_made (lifts_then (lifts_punct punct.Equal) (λ n u. literal_lifts v h))
+    (λ a e. ap Some e))
 
 word_lifts : (c : CombineWord) → Lifts (Is c) g.behind_combine (tokens_of_combine c)
-word_lifts combine.Plus = lifts_then (lifts_keyword w.Combine) (λ n u. lifts_left (lifts_made lifts_plus (λ m v. refl)))
-word_lifts combine.Min = lifts_then (lifts_keyword w.Combine) (λ n u. lifts_right (lifts_left (lifts_made lifts_min (λ m v. refl))))
-word_lifts combine.Max = lifts_then (lifts_keyword w.Combine) (λ n u. lifts_right (lifts_right (lifts_left (lifts_made lifts_max (λ m v. refl)))))
-word_lifts combine.And = lifts_then (lifts_keyword w.Combine) (λ n u. lifts_right (lifts_right (lifts_right (lifts_left (lifts_made lifts_and (λ m v. refl))))))
-word_lifts combine.Or = lifts_then (lifts_keyword w.Combine) (λ n u. lifts_right (lifts_right (lifts_right (lifts_right (lifts_made lifts_or (λ m v. refl))))))
+word_lifts combine.Plus = lifts_then (lifts_keyword w.Combine)
+    (λ n u. lifts_left (lifts_made lifts_plus (λ m v. refl)))
+word_lifts combine.Min = lifts_then (lifts_keyword w.Combine)
+    (λ n u. lifts_right (lifts_left (lifts_made lifts_min (λ m v. refl))))
+word_lifts combine.Max = lifts_then (lifts_keyword w.Combine)
+    (λ n u. lifts_right (lifts_right (lifts_left (lifts_made lifts_max (λ m v. refl)))))
+word_lifts combine.And = lifts_then (lifts_keyword w.Combine)
+    (λ n u. lifts_right (lifts_right (lifts_right (lifts_left (lifts_made lifts_and (λ m v. refl))))))
+word_lifts combine.Or = lifts_then (lifts_keyword w.Combine)
+    (λ n u. lifts_right (lifts_right (lifts_right (lifts_right (lifts_made lifts_or (λ m v. refl))))))
 
-combine_lifts : (c : Option CombineWord) → Lifts (Is c) (eg.optional g.behind_combine) (if_there tokens_of_combine c)
+combine_lifts : (c : Option CombineWord) → Lifts (Is c) (eg.optional g.behind_combine)
+    (if_there tokens_of_combine c)
 combine_lifts None = lifts_right (lifts_pure refl)
 combine_lifts (Some c) = lifts_left (lifts_made (word_lifts c) (λ a e. ap Some e))
 
@@ -135,11 +159,14 @@ combine_lifts (Some c) = lifts_left (lifts_made (word_lifts c) (λ a e. ap Some 
 made_sig : Name → Kind → Option Value → Option CombineWord → SignalNode
 made_sig n k v c = record { pos = pos_at 0; name = n; kind = k; first = v; combine = c }
 
-pub sig_lifts : (s : SignalNode) → fits_signal s ≡ true → Lifts (Same placeless_signal s) g.signal (tokens_of_signal s)
+pub sig_lifts : (s : SignalNode) → fits_signal s ≡ true → Lifts (Same placeless_signal s) g.signal
+    (tokens_of_signal s)
 unfolding made_sig
 sig_lifts s h =
     let q = parts (is_written_name s.name) _ h in
-    lifts_words (ap (λ ts. s.name ∷ ts) (sym (append_assoc (tokens_of_type s.kind) (if_there tokens_of_first s.first) (if_there tokens_of_combine s.combine))))
+    lifts_words (ap (λ ts. s.name ∷ ts)
+    (sym (append_assoc (tokens_of_type s.kind) (if_there tokens_of_first s.first)
+    (if_there tokens_of_combine s.combine))))
     (lifts_then (lifts_name s.name q.0)
     (λ n e. lifts_then (kind_lifts s.kind)
     (λ k d. lifts_then (first_lifts s.first q.1)
@@ -155,30 +182,40 @@ direction_lifts dir.Local h = absurd (let no : ⊥ = cc in no)
 made_decl : Dir → SignalNode → InterfaceNode
 made_decl d s = record { dir = d; signal = s }
 
-pub decl_lifts : (d : InterfaceNode) → fits_interface d ≡ true → Lifts (Same placeless_interface d) g.interface (tokens_of_interface d)
+pub decl_lifts : (d : InterfaceNode) → fits_interface d ≡ true
+    → Lifts (Same placeless_interface d) g.interface (tokens_of_interface d)
 unfolding made_decl
 decl_lifts d h =
     let q = parts (is_interface d.dir) _ h in
-    lifts_then (direction_lifts d.dir q.0) (λ z e. lifts_made (sig_lifts d.signal q.1) (λ s k. λ i. made_decl (e i) (k i)))
+    lifts_then (direction_lifts d.dir q.0) (λ z e. lifts_made (sig_lifts d.signal q.1)
+    (λ s k. λ i. made_decl (e i) (k i)))
 
 made_param : Name → Kind → ParameterNode
 made_param n k = record { pos = pos_at 0; name = n; kind = k }
 
-pub param_lifts : (p : ParameterNode) → fits_parameter p ≡ true → Lifts (Same placeless_parameter p) g.parameter (tokens_of_parameter p)
+pub param_lifts : (p : ParameterNode) → fits_parameter p ≡ true
+    → Lifts (Same placeless_parameter p) g.parameter (tokens_of_parameter p)
 unfolding made_param
 param_lifts p h =
     let q = parts (is_written_name p.name) _ h in
-    lifts_then (lifts_name p.name q.0) (λ n e. lifts_then (lifts_punct punct.Colon) (λ z u. lifts_made (valued_lifts p.kind q.1) (λ k d. λ i. made_param (e i) (d i))))
+    lifts_then (lifts_name p.name q.0) (λ n e. lifts_then (lifts_punct punct.Colon)
+    (λ z u. lifts_made (valued_lifts p.kind q.1) (λ k d. λ i. made_param (e i) (d i))))
 
 made_binding : NameAt Name → NameAt Name → Binding Name
 made_binding a b = record { left = a; right = b }
 
-pub binding_lifts : (b : Binding Name) → fits_binding b ≡ true → Lifts (Same placeless_binding b) g.binding (tokens_of_binding b)
+pub binding_lifts : (b : Binding Name) → fits_binding b ≡ true
+    → Lifts (Same placeless_binding b) g.binding (tokens_of_binding b)
 unfolding made_binding
 binding_lifts b h =
     let q = parts (fits_name b.left) _ h in
-    lifts_then (named_lifts b.left q.0) (λ n e. lifts_then (lifts_punct punct.Equal) (λ z u. lifts_made (named_lifts b.right q.1) (λ m d. λ i. made_binding (e i) (d i))))
+    lifts_then (named_lifts b.left q.0) (λ n e. lifts_then (lifts_punct punct.Equal)
+    (λ z u. lifts_made (named_lifts b.right q.1) (λ m d. λ i. made_binding (e i) (d i))))
 
-pub handler_lifts : (word : Keyword) (z : Option Name) → tests.if_there is_written_text z ≡ true → Lifts (Is z) (eg.optional (g.handler word)) (tokens_of_handler (keyword_text word) z)
+pub handler_lifts : (word : Keyword) (z : Option Name) → tests.if_there is_written_text z ≡ true
+    → Lifts (Is z) (eg.optional (g.handler word)) (tokens_of_handler (keyword_text word) z)
 handler_lifts word None h = lifts_right (lifts_pure refl)
-handler_lifts word (Some z) h = lifts_left (lifts_made (lifts_then (lifts_keyword word) (λ n u. lifts_made {Q = Is z} (lifts_quoted z (text_of z h)) (λ q e. e))) (λ a e. ap Some e))
+handler_lifts word (Some z) h =
+    lifts_left (lifts_made
+    (lifts_then (lifts_keyword word) (λ n u. lifts_made {Q = Is z} (lifts_quoted z (text_of z h)) (λ q e. e)))
+    (λ a e. ap Some e))

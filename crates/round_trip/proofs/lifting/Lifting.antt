@@ -1,4 +1,5 @@
--- Words whose tokens are a text of a language, combinator by combinator: however the tokens stand, the text has a tree of which something is told.
+-- Words whose tokens are a text of a language, combinator by combinator: however the tokens stand, the text
+-- has a tree of which something is told.
 use Rattle.std.proofs.Common.{◌≡◌, ℕ, ◌≤◌, List, [], ◌∷◌, ◌++◌, map, Option, Some, None, refl, sym, ap, subst, ◌∙◌, inl, inr, append-nil}
 use Rattle.std.specs.Prelude.{option_map}
 use Rattle.std.specs.List.{AllByRecursion, flat_map}
@@ -9,7 +10,7 @@ use Rattle.module_token.specs.Tokens.{TextToken}
 use Rattle.expression_reader.specs.Terminals.{symbols}
 use Rattle.module_printer.specs.ExpressionTokens.{Lexemes}
 use Rattle.module_printer.specs.SourceTokens.{if_there}
-use Rattle.round_trip.specs.Lexemes.{Spells}
+use Rattle.round_trip.proofs.Lexemes.{Spells}
 use Rattle.module_reader.specs.Reading.{to_grammar}
 use Rattle.expression_reader.specs.Rules.{Lang, optional}
 
@@ -38,9 +39,16 @@ split [] ys ts h = record { front = []; back = ts; whole = refl; spells_front = 
 split (x ∷ xs) ys [] h = absurd h
 split (x ∷ xs) ys (t ∷ ts) h =
     let s = split xs ys ts h.2 in
-    record { front = t ∷ s.front; back = s.back; whole = ap (λ (l : List TextToken). t ∷ l) s.whole; spells_front = (h.0, h.1, s.spells_front); spells_back = s.spells_back }
+    record {
+      front = t ∷ s.front;
+      back = s.back;
+      whole = ap (λ (l : List TextToken). t ∷ l) s.whole;
+      spells_front = (h.0, h.1, s.spells_front);
+      spells_back = s.spells_back;
+    }
 
-to_grammar-append : (xs ys : List TextToken) → map to_grammar (xs ++ ys) ≡ map to_grammar xs ++ map to_grammar ys
+to_grammar-append : (xs ys : List TextToken) → map to_grammar (xs ++ ys) ≡ map to_grammar xs
+    ++ map to_grammar ys
 to_grammar-append [] ys = refl
 to_grammar-append (t ∷ xs) ys = ap (λ l. to_grammar t ∷ l) (to_grammar-append xs ys)
 
@@ -50,7 +58,8 @@ few_append p q h g = all-append (λ k. k ≤ 1024) p q h g
 -- ---- one after the other
 
 module _ {A B : Type 0} {P : A → Type 0} {Q : B → Type 0} where
-  pub lifts_then : {first : Lang A} {second : A → Lang B} {xs ys : Lexemes} → Lifts P first xs → ((a : A) → P a → Lifts Q (second a) ys) → Lifts Q (first >>= second) (xs ++ ys)
+  pub lifts_then : {first : Lang A} {second : A → Lang B} {xs ys : Lexemes} → Lifts P first xs
+      → ((a : A) → P a → Lifts Q (second a) ys) → Lifts Q (first >>= second) (xs ++ ys)
   lifts_then {first} {second} {xs} {ys} f g = record {
     lift = λ ts h.
         let s = split xs ys ts h in
@@ -59,21 +68,44 @@ module _ {A B : Type 0} {P : A → Type 0} {Q : B → Type 0} where
         record {
           tree = two.tree;
           marks = one.marks ++ two.marks;
-          is_text = (one.tree, map to_grammar s.front, map to_grammar s.back, one.marks, two.marks, ap (map to_grammar) s.whole ∙ to_grammar-append s.front s.back, refl, one.is_text, two.is_text);
+          is_text = (
+            one.tree,
+            map to_grammar s.front,
+            map to_grammar s.back,
+            one.marks,
+            two.marks,
+            ap
+                (map to_grammar) s.whole ∙ to_grammar-append s.front s.back,
+            refl,
+            one.is_text,
+            two.is_text,
+          );
           few = few_append one.marks two.marks one.few two.few;
           told = two.told;
         };
   }
 
   -- what is made of a tree
-  pub lifts_made : {first : Lang A} {make : A → B} {xs : Lexemes} → Lifts P first xs → ((a : A) → P a → Q (make a)) → Lifts Q (first >>= (λ a. pure (make a))) xs
+  pub lifts_made : {first : Lang A} {make : A → B} {xs : Lexemes} → Lifts P first xs
+      → ((a : A) → P a → Q (make a)) → Lifts Q (first >>= (λ a. pure (make a))) xs
   lifts_made {first} {make} {xs} f g = record {
     lift = λ ts h.
         let one = f.lift ts h in
         record {
           tree = make one.tree;
           marks = one.marks;
-          is_text = (one.tree, map to_grammar ts, [], one.marks, [], sym (append-nil (map to_grammar ts)), sym (append-nil one.marks), one.is_text, (refl, refl, refl));
+          is_text = (
+            one.tree,
+            map to_grammar ts,
+            [],
+            one.marks,
+            [],
+            sym (append-nil (map to_grammar ts)),
+            sym
+                (append-nil one.marks),
+            one.is_text,
+            (refl, refl, refl),
+          );
           few = one.few;
           told = g one.tree one.told;
         };
@@ -88,13 +120,23 @@ module _ {A : Type 0} {P : A → Type 0} where
   lifts_pure {a} h = record { lift = nothing_left a h }
 
   pub lifts_left : {first second : Lang A} {ws : Lexemes} → Lifts P first ws → Lifts P (first or second) ws
-  lifts_left f = record { lift = λ ts h. let x = f.lift ts h in record { tree = x.tree; marks = x.marks; is_text = inl x.is_text; few = x.few; told = x.told } }
+  lifts_left f = record {
+    lift = λ ts h. let x = f.lift ts h in
+        record { tree = x.tree; marks = x.marks; is_text = inl x.is_text; few = x.few; told = x.told };
+  }
 
   pub lifts_right : {first second : Lang A} {ws : Lexemes} → Lifts P second ws → Lifts P (first or second) ws
-  lifts_right f = record { lift = λ ts h. let x = f.lift ts h in record { tree = x.tree; marks = x.marks; is_text = inr x.is_text; few = x.few; told = x.told } }
+  lifts_right f = record {
+    lift = λ ts h. let x = f.lift ts h in
+        record { tree = x.tree; marks = x.marks; is_text = inr x.is_text; few = x.few; told = x.told };
+  }
 
-  pub lifts_more : {Q : A → Type 0} {s : Lang A} {ws : Lexemes} → ((a : A) → Q a → P a) → Lifts Q s ws → Lifts P s ws
-  lifts_more g f = record { lift = λ ts h. let x = f.lift ts h in record { tree = x.tree; marks = x.marks; is_text = x.is_text; few = x.few; told = g x.tree x.told } }
+  pub lifts_more : {Q : A → Type 0} {s : Lang A} {ws : Lexemes} → ((a : A) → Q a → P a) → Lifts Q s ws
+      → Lifts P s ws
+  lifts_more g f = record {
+    lift = λ ts h. let x = f.lift ts h in
+        record { tree = x.tree; marks = x.marks; is_text = x.is_text; few = x.few; told = g x.tree x.told };
+  }
 
   pub lifts_words : {s : Lang A} {ws us : Lexemes} → ws ≡ us → Lifts P s ws → Lifts P s us
   lifts_words {s} e f = subst (Lifts P s) e f
@@ -106,12 +148,15 @@ abbrev pub Same : {A B : Type 0} → (A → B) → A → A → Type 0
 Same f b a = f a ≡ f b
 
 module _ {A B : Type 0} {f : A → B} (words : A → Lexemes) {part : Lang A} where
-  pub lifts_optional : (x : Option A) → ((b : A) → x ≡ Some b → Lifts (Same f b) part (words b)) → Lifts (Same (option_map f) x) (optional part) (if_there words x)
+  pub lifts_optional : (x : Option A) → ((b : A) → x ≡ Some b → Lifts (Same f b) part (words b))
+      → Lifts (Same (option_map f) x) (optional part) (if_there words x)
   lifts_optional None h = lifts_right (lifts_pure refl)
   lifts_optional (Some b) h = lifts_left (lifts_made (h b refl) (λ a e. ap Some e))
 
 module _ {A B : Type 0} {f : A → B} (words : A → Lexemes) (around : Lexemes → Lexemes) {item : Lang A} where
-  pub each_lifted : (bs : List A) → AllByRecursion (λ b. Lifts (Same f b) item (around (words b))) bs → (ts : List TextToken) → Spells (flat_map around (map words bs)) ts → Lifted (Same (map f) bs) (many item) ts
+  pub each_lifted : (bs : List A) → AllByRecursion (λ b. Lifts (Same f b) item (around (words b))) bs
+      → (ts : List TextToken) → Spells (flat_map around (map words bs)) ts
+      → Lifted (Same (map f) bs) (many item) ts
   each_lifted [] h [] e = record { tree = []; marks = []; is_text = (refl, refl); few = tt; told = refl }
   each_lifted [] h (t ∷ ts) e = absurd e
   each_lifted (b ∷ bs) h ts e =
@@ -121,10 +166,21 @@ module _ {A B : Type 0} {f : A → B} (words : A → Lexemes) (around : Lexemes 
       record {
         tree = one.tree ∷ two.tree;
         marks = one.marks ++ two.marks;
-        is_text = (map to_grammar s.front, map to_grammar s.back, one.marks, two.marks, ap (map to_grammar) s.whole ∙ to_grammar-append s.front s.back, refl, one.is_text, two.is_text);
+        is_text = (
+          map to_grammar s.front,
+          map to_grammar s.back,
+          one.marks,
+          two.marks,
+          ap
+              (map to_grammar) s.whole ∙ to_grammar-append s.front s.back,
+          refl,
+          one.is_text,
+          two.is_text,
+        );
         few = few_append one.marks two.marks one.few two.few;
         told = λ i. one.told i ∷ two.told i;
       }
 
-  pub lifts_many : (bs : List A) → AllByRecursion (λ b. Lifts (Same f b) item (around (words b))) bs → Lifts (Same (map f) bs) (many item) (flat_map around (map words bs))
+  pub lifts_many : (bs : List A) → AllByRecursion (λ b. Lifts (Same f b) item (around (words b))) bs
+      → Lifts (Same (map f) bs) (many item) (flat_map around (map words bs))
   lifts_many bs h = record { lift = each_lifted bs h }

@@ -1,4 +1,5 @@
--- The rules of expressions by their levels: words of a tighter level are words of a looser one, and between parentheses they may stand anywhere.
+-- The rules of expressions by their levels: words of a tighter level are words of a looser one, and between
+-- parentheses they may stand anywhere.
 use Rattle.std.proofs.Common.{◌≡◌, ℕ, zero, suc, ◌≤◌, cond, Bool, true, false, refl, sym, subst, ⊎_elim, arith}
 use Rattle.std.proofs.lemmas.Bool.{cases_eq, ltb-false}
 use Rattle.host_expr.specs.declared.expr.Expr.{Expr}
@@ -41,27 +42,34 @@ module _ {P : Expr Name → Type 0} (inside : Lang (Expr Name)) {ws : Lexemes} w
   one_looser (suc (suc (suc (suc (suc (suc (suc n))))))) h = h
 
   looser : (b a : ℕ) → a ≤ b → Lifts P (ranked b inside) ws → Lifts P (ranked a inside) ws
-  looser b a le h = ⊎_elim (λ e. subst (λ n. Lifts P (ranked n inside) ws) (sym e) h) (λ n. below b n le h) (cases_eq a b)
+  looser b a le h = ⊎_elim (λ e. subst (λ n. Lifts P (ranked n inside) ws) (sym e) h) (λ n. below b n le h)
+      (cases_eq a b)
     where
       below : (b : ℕ) → (a ≡ b → ⊥) → a ≤ b → Lifts P (ranked b inside) ws → Lifts P (ranked a inside) ws
       below zero n le h = absurd (n (omega (arith, le)))
-      below (suc b) n le h = ⊎_elim (λ e. subst (λ n. Lifts P (ranked n inside) ws) (sym e) (one_looser b h)) (λ m. below b m (omega (arith, le, n)) (one_looser b h)) (cases_eq a b)
+      below (suc b) n le h = ⊎_elim (λ e. subst (λ n. Lifts P (ranked n inside) ws) (sym e) (one_looser b h))
+          (λ m. below b m (omega (arith, le, n)) (one_looser b h)) (cases_eq a b)
 
 -- ---- places
 
-module _ {P : Expr Name → Type 0} (l : Level) (n : ℕ) (ws : Lexemes) (own : (room : ℕ) → n ≤ room → Lifts P (rule l (g.inside room)) ws) where
+module _ {P : Expr Name → Type 0} (l : Level) (n : ℕ) (ws : Lexemes) (own : (room : ℕ) → n ≤ room
+    → Lifts P (rule l (g.inside room)) ws) where
   parenthesized : (room : ℕ) → suc n ≤ room → Lifts P (g.inside room) (in_parentheses ws)
   parenthesized zero le = absurd (let no : ⊥ = omega (arith, le) in no)
   parenthesized (suc room) le =
       lifts_then (lifts_punct punct.LeftParen)
-      (λ place u. lifts_then (looser (g.inside room) (tightness_of l) 0 (omega arith) (own room (omega (arith, le)))) (λ a h. lifts_made (lifts_punct punct.RightParen) (λ z v. h)))
+      (λ place u. lifts_then (looser (g.inside room) (tightness_of l) 0 (omega arith)
+      (own room (omega (arith, le)))) (λ a h. lifts_made (lifts_punct punct.RightParen) (λ z v. h)))
 
   -- in a place that takes this level and tighter ones
-  pub placed : (room : ℕ) (least : Level) → p.at suc least (record { level = l; value = n }) ≤ room → Lifts P (rule least (g.inside room)) (p.at in_parentheses least (record { level = l; value = ws }))
+  pub placed : (room : ℕ) (least : Level) → p.at suc least (record { level = l; value = n }) ≤ room
+      → Lifts P (rule least (g.inside room)) (p.at in_parentheses least (record { level = l; value = ws }))
   placed room least = by (is_looser l least) refl
     where
-      by : (b : Bool) → is_looser l least ≡ b → cond b (suc n) n ≤ room → Lifts P (rule least (g.inside room)) (cond b (in_parentheses ws) ws)
-      by true e le = looser (g.inside room) 7 (tightness_of least) (most least) (lifts_right (lifts_right (lifts_right (lifts_right (lifts_right (parenthesized room le))))))
+      by : (b : Bool) → is_looser l least ≡ b → cond b (suc n) n ≤ room
+          → Lifts P (rule least (g.inside room)) (cond b (in_parentheses ws) ws)
+      by true e le = looser (g.inside room) 7 (tightness_of least) (most least)
+          (lifts_right (lifts_right (lifts_right (lifts_right (lifts_right (parenthesized room le))))))
         where
           most : (a : Level) → tightness_of a ≤ 7
           most level.Expression = omega arith
@@ -72,4 +80,5 @@ module _ {P : Expr Name → Type 0} (l : Level) (n : ℕ) (ws : Lexemes) (own : 
           most level.Product = omega arith
           most level.Factor = omega arith
           most level.Operand = omega arith
-      by false e le = looser (g.inside room) (tightness_of l) (tightness_of least) (ltb-false (tightness_of l) (tightness_of least) e) (own room le)
+      by false e le = looser (g.inside room) (tightness_of l) (tightness_of least)
+          (ltb-false (tightness_of l) (tightness_of least) e) (own room le)

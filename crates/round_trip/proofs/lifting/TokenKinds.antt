@@ -24,7 +24,7 @@ use Rattle.module_token.specs.Spelling.{punct_text}
 use Rattle.module_token.proofs.Digits.{own}
 use Rattle.module_token.proofs.Heads.{head_ascii}
 use Rattle.hh_base.proofs.Keywords.{is_keyword_spelled, keyword_spelled}
-use Rattle.round_trip.specs.Lexemes.{IsLexeme}
+use Rattle.round_trip.proofs.Lexemes.{IsLexeme}
 
 -- ---- by the first byte
 
@@ -57,7 +57,8 @@ digits_look [] l h = absurd (let no : ⊥ = omega (arith, l) in no)
 digits_look (b ∷ bs) l h = rw (parts (is_ascii_digit b) (list_all is_ascii_digit bs) h).0 refl
 
 number_look : (n : ℕ) → n ≤ 2 ^ 63 → look (decimal n) ≡ 1
-number_look n h = digits_look (decimal n) (decimal_nonempty n (omega (arith, h))) (digits_decimal own n (omega (arith, h)))
+number_look n h = digits_look (decimal n) (decimal_nonempty n (omega (arith, h)))
+    (digits_decimal own n (omega (arith, h)))
 
 word_look : (b : ℕ) (bs : List ℕ) → (is_ascii_alphabetic b || (b == 95)) ≡ true → look (b ∷ bs) ≡ 3
 word_look b bs h = rw (no_digit b h, no_quote b h, h) refl
@@ -106,7 +107,12 @@ written w h =
     let outer = parts _ (not (is_keyword w)) h in
     let inner = parts _ (nat_le (length w) 255) outer.0 in
     let both = parts (is_utf8 w) (is_word (chars w)) inner.0 in
-    record { utf8 = both.0; word = both.1; short = leb-true (length w) 255 inner.1; plain = no_keyword (is_keyword w) outer.1 }
+    record {
+      utf8 = both.0;
+      word = both.1;
+      short = leb-true (length w) 255 inner.1;
+      plain = no_keyword (is_keyword w) outer.1;
+    }
   where
     no_keyword : (b : Bool) → not b ≡ true → b ≡ false
     no_keyword true h = sym h
@@ -138,43 +144,68 @@ keyword_no_name : (keyword : Keyword) → is_keyword (keyword_text keyword) ≡ 
 keyword_no_name keyword h = let e = sym (is_keyword_spelled keyword) ∙ h in let no : ⊥ = cc in no
 
 -- what begins as a word and is no keyword is a word
-pub only_plain : (w : List ℕ) (what : TokenKind) → look w ≡ 3 → is_keyword w ≡ false → IsLexeme w what → what ≡ token.Word
+pub only_plain : (w : List ℕ) (what : TokenKind) → look w ≡ 3 → is_keyword w ≡ false → IsLexeme w what
+    → what ≡ token.Word
 only_plain w token.Word l p h = refl
-only_plain w (token.Keyword keyword) l p h = absurd (keyword_no_name keyword (subst (λ z. is_keyword z ≡ false) h p))
-only_plain w (token.Number value) l p h = absurd (let e = sym l ∙ lexeme_look w (token.Number value) h in let no : ⊥ = cc in no)
-only_plain w token.Quoted l p h = absurd (let e = sym l ∙ lexeme_look w token.Quoted h in let no : ⊥ = cc in no)
-only_plain w (token.Punct mark) l p h = absurd (let e = sym l ∙ lexeme_look w (token.Punct mark) h in let no : ⊥ = cc in no)
+only_plain w (token.Keyword keyword) l p h = absurd (keyword_no_name keyword
+    (subst (λ z. is_keyword z ≡ false) h p))
+only_plain w (token.Number value) l p h = absurd (let e = sym l ∙ lexeme_look w (token.Number value) h in
+    let no : ⊥ = cc in no)
+only_plain w token.Quoted l p h = absurd (let e = sym l ∙ lexeme_look w token.Quoted h in let no : ⊥ = cc in
+    no)
+only_plain w (token.Punct mark) l p h = absurd (let e = sym l ∙ lexeme_look w (token.Punct mark) h in
+    let no : ⊥ = cc in no)
 
-pub only_word : (w : List ℕ) (what : TokenKind) → is_written_name w ≡ true → IsLexeme w what → what ≡ token.Word
+pub only_word : (w : List ℕ) (what : TokenKind) → is_written_name w ≡ true → IsLexeme w what
+    → what ≡ token.Word
 only_word w what n h = let q = written w n in only_plain w what (name_look w q.word) q.plain h
 
 some_same : {A : Type 0} {a b : A} → Some a ≡ Some b → a ≡ b
 some_same e = cc
 
-pub only_keyword : (keyword : Keyword) (what : TokenKind) → IsLexeme (keyword_text keyword) what → what ≡ token.Keyword keyword
+pub only_keyword : (keyword : Keyword) (what : TokenKind) → IsLexeme (keyword_text keyword) what
+    → what ≡ token.Keyword keyword
 only_keyword keyword token.Word h = absurd (keyword_no_name keyword (written (keyword_text keyword) h).plain)
-only_keyword keyword (token.Keyword other) h = ap token.Keyword (some_same (sym (keyword_spelled other) ∙ ap keyword_of (sym h) ∙ keyword_spelled keyword))
-only_keyword keyword (token.Number value) h = absurd (let e = sym (keyword_look keyword) ∙ lexeme_look _ (token.Number value) h in let no : ⊥ = cc in no)
-only_keyword keyword token.Quoted h = absurd (let e = sym (keyword_look keyword) ∙ lexeme_look _ token.Quoted h in let no : ⊥ = cc in no)
-only_keyword keyword (token.Punct mark) h = absurd (let e = sym (keyword_look keyword) ∙ lexeme_look _ (token.Punct mark) h in let no : ⊥ = cc in no)
+only_keyword keyword (token.Keyword other) h = ap token.Keyword
+    (some_same (sym (keyword_spelled other) ∙ ap keyword_of (sym h) ∙ keyword_spelled keyword))
+only_keyword keyword (token.Number value) h = absurd (let e = sym (keyword_look keyword)
+    ∙ lexeme_look _ (token.Number value) h in let no : ⊥ = cc in no)
+only_keyword keyword token.Quoted h = absurd (let e = sym (keyword_look keyword)
+    ∙ lexeme_look _ token.Quoted h in let no : ⊥ = cc in no)
+only_keyword keyword (token.Punct mark) h = absurd (let e = sym (keyword_look keyword)
+    ∙ lexeme_look _ (token.Punct mark) h in let no : ⊥ = cc in no)
 
 pub only_punct : (mark : Punct) (what : TokenKind) → IsLexeme (punct_text mark) what → what ≡ token.Punct mark
-only_punct mark token.Word h = absurd (let e = sym (punct_look mark) ∙ lexeme_look _ token.Word h in let no : ⊥ = cc in no)
-only_punct mark (token.Keyword keyword) h = absurd (let e = sym (punct_look mark) ∙ lexeme_look _ (token.Keyword keyword) h in let no : ⊥ = cc in no)
-only_punct mark (token.Number value) h = absurd (let e = sym (punct_look mark) ∙ lexeme_look _ (token.Number value) h in let no : ⊥ = cc in no)
-only_punct mark token.Quoted h = absurd (let e = sym (punct_look mark) ∙ lexeme_look _ token.Quoted h in let no : ⊥ = cc in no)
-only_punct mark (token.Punct other) h = ap token.Punct (some_same (sym (mark_spelled other) ∙ ap mark_of (sym h) ∙ mark_spelled mark))
+only_punct mark token.Word h = absurd (let e = sym (punct_look mark) ∙ lexeme_look _ token.Word h in
+    let no : ⊥ = cc in no)
+only_punct mark (token.Keyword keyword) h = absurd (let e = sym (punct_look mark)
+    ∙ lexeme_look _ (token.Keyword keyword) h in let no : ⊥ = cc in no)
+only_punct mark (token.Number value) h = absurd (let e = sym (punct_look mark)
+    ∙ lexeme_look _ (token.Number value) h in let no : ⊥ = cc in no)
+only_punct mark token.Quoted h = absurd (let e = sym (punct_look mark) ∙ lexeme_look _ token.Quoted h in
+    let no : ⊥ = cc in no)
+only_punct mark (token.Punct other) h = ap token.Punct (some_same
+    (sym (mark_spelled other) ∙ ap mark_of (sym h) ∙ mark_spelled mark))
 
 pub only_number : (n : ℕ) (what : TokenKind) → n ≤ 2 ^ 63 → IsLexeme (decimal n) what → what ≡ token.Number n
-only_number n token.Word l h = absurd (let e = sym (number_look n l) ∙ lexeme_look _ token.Word h in let no : ⊥ = cc in no)
-only_number n (token.Keyword keyword) l h = absurd (let e = sym (number_look n l) ∙ lexeme_look _ (token.Keyword keyword) h in let no : ⊥ = cc in no)
-only_number n (token.Number value) l h = ap token.Number (decimal_injective value n (omega (arith, h.1)) (omega (arith, l)) (sym h.0))
-only_number n token.Quoted l h = absurd (let e = sym (number_look n l) ∙ lexeme_look _ token.Quoted h in let no : ⊥ = cc in no)
-only_number n (token.Punct mark) l h = absurd (let e = sym (number_look n l) ∙ lexeme_look _ (token.Punct mark) h in let no : ⊥ = cc in no)
+only_number n token.Word l h = absurd (let e = sym (number_look n l) ∙ lexeme_look _ token.Word h in
+    let no : ⊥ = cc in no)
+only_number n (token.Keyword keyword) l h = absurd (let e = sym (number_look n l)
+    ∙ lexeme_look _ (token.Keyword keyword) h in let no : ⊥ = cc in no)
+only_number n (token.Number value) l h = ap token.Number (decimal_injective value n (omega (arith, h.1))
+    (omega (arith, l)) (sym h.0))
+only_number n token.Quoted l h = absurd (let e = sym (number_look n l) ∙ lexeme_look _ token.Quoted h in
+    let no : ⊥ = cc in no)
+only_number n (token.Punct mark) l h = absurd (let e = sym (number_look n l)
+    ∙ lexeme_look _ (token.Punct mark) h in let no : ⊥ = cc in no)
 
 pub only_quoted : (v : List ℕ) (what : TokenKind) → IsLexeme (quoted v) what → what ≡ token.Quoted
-only_quoted v token.Word h = absurd (let e = sym (quote_look v) ∙ lexeme_look _ token.Word h in let no : ⊥ = cc in no)
-only_quoted v (token.Keyword keyword) h = absurd (let e = sym (quote_look v) ∙ lexeme_look _ (token.Keyword keyword) h in let no : ⊥ = cc in no)
-only_quoted v (token.Number value) h = absurd (let e = sym (quote_look v) ∙ lexeme_look _ (token.Number value) h in let no : ⊥ = cc in no)
+only_quoted v token.Word h = absurd (let e = sym (quote_look v) ∙ lexeme_look _ token.Word h in
+    let no : ⊥ = cc in no)
+only_quoted v (token.Keyword keyword) h = absurd (let e = sym (quote_look v)
+    ∙ lexeme_look _ (token.Keyword keyword) h in let no : ⊥ = cc in no)
+only_quoted v (token.Number value) h = absurd (let e = sym (quote_look v)
+    ∙ lexeme_look _ (token.Number value) h in let no : ⊥ = cc in no)
 only_quoted v token.Quoted h = refl
-only_quoted v (token.Punct mark) h = absurd (let e = sym (quote_look v) ∙ lexeme_look _ (token.Punct mark) h in let no : ⊥ = cc in no)
+only_quoted v (token.Punct mark) h = absurd (let e = sym (quote_look v)
+    ∙ lexeme_look _ (token.Punct mark) h in let no : ⊥ = cc in no)

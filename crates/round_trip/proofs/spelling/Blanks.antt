@@ -28,7 +28,7 @@ use Rattle.module_token.specs.Token.{IsToken, IsLongestWord, IsLongestNumber, Is
 use Rattle.module_token.proofs.Digits.{own}
 use Rattle.module_token.proofs.Heads.{head_ascii}
 use Rattle.module_token.proofs.Marks.{Shape, one, two, shape}
-use Rattle.round_trip.specs.Lexemes.{IsLexeme}
+use Rattle.round_trip.proofs.Lexemes.{IsLexeme}
 
 pub and_true : (a b : Bool) → (a && b) ≡ true → (a ≡ true) × (b ≡ true)
 and_true true b h = (refl, h)
@@ -57,11 +57,13 @@ letter_starts c h = rw (is_xid_start-ascii c (letter_ascii c h), h) refl
 
 letters_ascii : (cs : List ℕ) → list_all is_ascii_alphabetic cs ≡ true → IsAscii cs
 letters_ascii [] h = IsAscii-nil
-letters_ascii (c ∷ cs) h = let q = and_true (is_ascii_alphabetic c) (list_all is_ascii_alphabetic cs) h in IsAscii-cons c cs (letter_ascii c q.0) (letters_ascii cs q.1)
+letters_ascii (c ∷ cs) h = let q = and_true (is_ascii_alphabetic c) (list_all is_ascii_alphabetic cs) h in
+    IsAscii-cons c cs (letter_ascii c q.0) (letters_ascii cs q.1)
 
 letters_continue : (cs : List ℕ) → list_all is_ascii_alphabetic cs ≡ true → list_all is_xid_continue cs ≡ true
 letters_continue [] h = refl
-letters_continue (c ∷ cs) h = let q = and_true (is_ascii_alphabetic c) (list_all is_ascii_alphabetic cs) h in rw (letter_continues c q.0) (letters_continue cs q.1)
+letters_continue (c ∷ cs) h = let q = and_true (is_ascii_alphabetic c) (list_all is_ascii_alphabetic cs) h in
+    rw (letter_continues c q.0) (letters_continue cs q.1)
 
 -- a word, in UTF-8
 pub record IsUtf8Word (w : List ℕ) : Type 0 where
@@ -75,7 +77,8 @@ plain_word (c ∷ cs) h =
     let ascii = IsAscii-cons c cs (letter_ascii c q.0) (letters_ascii cs q.1) in
     record {
       utf8 = is_utf8-from_IsUtf8 (c ∷ cs) (IsUtf8-from_ascii (c ∷ cs) ascii);
-      letters = ap is_word (chars-IsAscii (c ∷ cs) ascii) ∙ rw (letter_starts c q.0) (letters_continue cs q.1);
+      letters = ap is_word (chars-IsAscii (c ∷ cs) ascii) ∙ rw (letter_starts c q.0)
+          (letters_continue cs q.1);
     }
 
 pub plain_keyword : (keyword : Keyword) → is_plain (keyword_text keyword) ≡ true
@@ -86,7 +89,8 @@ plain_keyword _ = refl
 
 module _ (b : ℕ) (rest : List ℕ) (blank : is_blank b ≡ true) where
   ends_word : goes_on (chars (b ∷ rest)) ≡ false
-  ends_word = let q = head_ascii b rest (blank_ascii b blank) in ap goes_on q.1 ∙ is_xid_continue-ascii b (blank_ascii b blank) ∙ neither b blank
+  ends_word = let q = head_ascii b rest (blank_ascii b blank) in
+      ap goes_on q.1 ∙ is_xid_continue-ascii b (blank_ascii b blank) ∙ neither b blank
     where
       neither : (b : ℕ) → is_blank b ≡ true → (is_ascii_alphanumeric b || (b == 95)) ≡ false
       neither b h = grind (arith, nat_tests)
@@ -98,8 +102,12 @@ module _ (b : ℕ) (rest : List ℕ) (blank : is_blank b ≡ true) where
   written_name w h =
       let q = and_true _ _ h in
       let r = and_true _ _ q.0 in
-      let s = and_true (is_utf8 w) (is_word (chars w)) r.0 in
-      (longest_word w (record { utf8 = s.0; letters = s.1 }), leb-true (length w) 255 r.1, no_keyword (is_keyword w) q.1)
+      let s = and_true (is_utf8 w) (is_word (chars w)) r.0 in (
+        longest_word w (record { utf8 = s.0; letters = s.1 }),
+        leb-true (length w) 255 r.1,
+        no_keyword
+            (is_keyword w) q.1,
+      )
     where
       no_keyword : (t : Bool) → not t ≡ true → t ≡ false
       no_keyword true h = cc
@@ -108,7 +116,14 @@ module _ (b : ℕ) (rest : List ℕ) (blank : is_blank b ≡ true) where
   longest_number : (n : ℕ) → n ≤ 2 ^ 63 → IsLongestNumber (decimal n) (b ∷ rest) n
   longest_number n h =
       let small : n < 2 ^ 64 = omega (arith, h) in
-      record { number = record { some = decimal_nonempty n small; digits = digits_decimal own n small; value = digits_value-decimal own n small }; ends = no_digit b blank }
+      record {
+        number = record {
+          some = decimal_nonempty n small;
+          digits = digits_decimal own n small;
+          value = digits_value-decimal own n small;
+        };
+        ends = no_digit b blank;
+      }
     where
       no_digit : (b : ℕ) → is_blank b ≡ true → is_ascii_digit b ≡ false
       no_digit b h = grind (arith, nat_tests)
@@ -122,7 +137,8 @@ mark_short _ = omega arith
 no_second : (b d : ℕ) → is_blank d ≡ true → long_mark b d ≡ None
 no_second b d h = grind (arith, nat_tests)
 
-no_comment : (b : ℕ) (rest : List ℕ) → is_blank b ≡ true → (mark : Punct) → begins_comment (punct_text mark ++ b ∷ rest) ≡ false
+no_comment : (b : ℕ) (rest : List ℕ) → is_blank b ≡ true → (mark : Punct)
+    → begins_comment (punct_text mark ++ b ∷ rest) ≡ false
 no_comment b rest h p.Slash = slash b h
   where
     slash : (b : ℕ) → is_blank b ≡ true → ((b == 47) || (b == 42)) ≡ false
@@ -130,11 +146,15 @@ no_comment b rest h p.Slash = slash b h
 no_comment b rest h _ = refl
 
 -- where one mark, and a blank behind it, stand in front, another one is not longer
-longest : (b : ℕ) (rest : List ℕ) → is_blank b ≡ true → (mark other : Punct) → Shape mark → Shape other → (more : List ℕ) → punct_text mark ++ b ∷ rest ≡ punct_text other ++ more → length (punct_text other) ≤ length (punct_text mark)
-longest b rest h mark other (one c is found sign) (one d same found2 sign2) more e = omega (arith, ap length is, ap length same)
+longest : (b : ℕ) (rest : List ℕ) → is_blank b ≡ true → (mark other : Punct) → Shape mark → Shape other
+    → (more : List ℕ) → punct_text mark ++ b ∷ rest ≡ punct_text other ++ more
+    → length (punct_text other) ≤ length (punct_text mark)
+longest b rest h mark other (one c is found sign) (one d same found2 sign2) more e =
+    omega (arith, ap length is, ap length same)
 longest b rest h mark other (two c d is found sign) s more e = omega (arith, ap length is, mark_short other)
 longest b rest h mark other (one c is found sign) (two x y same found2 sign2) more e =
-    let split : c ∷ b ∷ rest ≡ x ∷ y ∷ more = ap (λ l. l ++ b ∷ rest) (sym is) ∙ e ∙ ap (λ l. l ++ more) same in
+    let split : c ∷ b ∷ rest ≡ x ∷ y ∷ more = ap (λ l. l ++ b ∷ rest) (sym is) ∙ e
+    ∙ ap (λ l. l ++ more) same in
     absurd (never (second split))
   where
     second : c ∷ b ∷ rest ≡ x ∷ y ∷ more → b ≡ y
@@ -143,7 +163,8 @@ longest b rest h mark other (one c is found sign) (two x y same found2 sign2) mo
     never : b ≡ y → ⊥
     never e = let none : long_mark x y ≡ None = ap (long_mark x) (sym e) ∙ no_second x b h in cc
 
-longest_mark : (mark : Punct) (b : ℕ) (rest : List ℕ) → is_blank b ≡ true → IsLongestMark (punct_text mark) (b ∷ rest) mark
+longest_mark : (mark : Punct) (b : ℕ) (rest : List ℕ) → is_blank b ≡ true
+    → IsLongestMark (punct_text mark) (b ∷ rest) mark
 longest_mark mark b rest h = record {
   spelled = refl;
   longest = λ other more e. longest b rest h mark other (shape mark) (shape other) more e;
@@ -152,9 +173,14 @@ longest_mark mark b rest h = record {
 
 -- ---- all tokens
 
-pub before_blank : (w : List ℕ) (what : TokenKind) (b : ℕ) (rest : List ℕ) → is_blank b ≡ true → IsLexeme w what → IsToken w what (b ∷ rest)
+pub before_blank : (w : List ℕ) (what : TokenKind) (b : ℕ) (rest : List ℕ) → is_blank b ≡ true
+    → IsLexeme w what → IsToken w what (b ∷ rest)
 before_blank w token.Word b rest blank h = written_name b rest blank w h
-before_blank w (token.Keyword keyword) b rest blank h = (longest_word b rest blank w (rw h (plain_word (keyword_text keyword) (plain_keyword keyword))), h)
+before_blank w (token.Keyword keyword) b rest blank h = (
+  longest_word b rest blank w
+      (rw h (plain_word (keyword_text keyword) (plain_keyword keyword))),
+  h,
+)
 before_blank w (token.Number n) b rest blank h = (rw h.0 (longest_number b rest blank n h.1), h.1)
 before_blank w token.Quoted b rest blank h = h
 before_blank w (token.Punct mark) b rest blank h = rw h (longest_mark mark b rest blank)

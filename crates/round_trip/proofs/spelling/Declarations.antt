@@ -70,7 +70,9 @@ combination (Some c) = more (keyword k.Combine) (single (combine_word c))
 pub signal : (s : SignalNode) → fits_signal s ≡ true → Spelt (tokens_of_signal s)
 signal s h =
     let q = and_true _ _ h in
-    more (name s.name q.0) (both (both (type s.kind) (optional tokens_of_first is_written_value (λ v e. more (mark p.Equal) (first_value v e)) s.first q.1)) (combination s.combine))
+    more (name s.name q.0)
+    (both (both (type s.kind) (optional tokens_of_first is_written_value
+    (λ v e. more (mark p.Equal) (first_value v e)) s.first q.1)) (combination s.combine))
 
 pub interface : (d : InterfaceNode) → fits_interface d ≡ true → Spelt (tokens_of_interface d)
 interface d h = both (direction d.dir) (signal d.signal (and_true _ _ h).1)
@@ -87,13 +89,15 @@ pub test : (x : ExprAt Name) → fits_expression x ≡ true → Spelt (tokens_of
 test x h = enclosed (outermost x h)
 
 count_within : (n : ℕ) → (nat_le 1 n && nat_le n 64) ≡ true → n ≤ 2 ^ 63
-count_within n h = let most : n ≤ 64 = leb-true n 64 (and_true (nat_le 1 n) (nat_le n 64) h).1 in omega (arith, most)
+count_within n h = let most : n ≤ 64 = leb-true n 64 (and_true (nat_le 1 n) (nat_le n 64) h).1 in
+    omega (arith, most)
 
 pub plain_delay : (d : Later Name) → fits_later d ≡ true → Spelt (tokens_of_later d)
 plain_delay (plain.Once x) h = test x h
 plain_delay (plain.Count n x) h =
     let q = and_true _ _ h in
-    more (keyword k.Count) (enclosed (more (number n (count_within n q.0)) (more (mark p.Comma) (outermost x q.1))))
+    more (keyword k.Count)
+    (enclosed (more (number n (count_within n q.0)) (more (mark p.Comma) (outermost x q.1))))
 
 pub any_delay : (d : Delay Name) → fits_delay d ≡ true → Spelt (tokens_of_delay d)
 any_delay (delay.Later d) h = plain_delay d h
@@ -101,18 +105,24 @@ any_delay (delay.Immediate x) h = more (keyword k.Immediate) (test x h)
 
 -- ---- emissions, runs and calls
 
-pub emission : (word : Keyword) (n : NameAt Name) (x : Option (ExprAt Name)) → fits_name n ≡ true → tests.if_there fits_expression x ≡ true → Spelt (tokens_of_emission (keyword_text word) n x)
-emission word n x h g = more (keyword word) (more (name n.name h) (closed (optional tokens_of_test fits_expression test x g) p.Semicolon))
+pub emission : (word : Keyword) (n : NameAt Name) (x : Option (ExprAt Name)) → fits_name n ≡ true
+    → tests.if_there fits_expression x ≡ true → Spelt (tokens_of_emission (keyword_text word) n x)
+emission word n x h g = more (keyword word) (more (name n.name h)
+    (closed (optional tokens_of_test fits_expression test x g) p.Semicolon))
 
 binding : (b : Binding Name) → fits_binding b ≡ true → Spelt (tokens_of_binding b)
-binding b h = let q = and_true _ _ h in more (name b.left.name q.0) (more (mark p.Equal) (single (name b.right.name q.1)))
+binding b h = let q = and_true _ _ h in more (name b.left.name q.0)
+    (more (mark p.Equal) (single (name b.right.name q.1)))
 
-pub run : (n : NameAt Name) (bindings : List (Binding Name)) → fits_name n ≡ true → list_all fits_binding bindings ≡ true → Spelt (tokens_of_run n bindings)
+pub run : (n : NameAt Name) (bindings : List (Binding Name)) → fits_name n ≡ true
+    → list_all fits_binding bindings ≡ true → Spelt (tokens_of_run n bindings)
 run n bindings h g =
     more (keyword k.Run) (more (name n.name h)
-    (closed (enclosed (commas tokens_of_binding bindings (all_passed (λ b. Spelt (tokens_of_binding b)) fits_binding binding bindings g))) p.Semicolon))
+    (closed (enclosed (commas tokens_of_binding bindings (all_passed
+    (λ b. Spelt (tokens_of_binding b)) fits_binding binding bindings g))) p.Semicolon))
 
-handler : (word : Keyword) (x : Option Name) → tests.if_there is_written_text x ≡ true → Spelt (tokens_of_handler (keyword_text word) x)
+handler : (word : Keyword) (x : Option Name) → tests.if_there is_written_text x ≡ true
+    → Spelt (tokens_of_handler (keyword_text word) x)
 handler word x h = optional _ is_written_text (λ t e. more (keyword word) (single (text t e))) x h
 
 -- what is told of an asynchronous statement, part by part
@@ -136,12 +146,15 @@ parts a h =
 call : (a : AsyncNode Name) → Fits a → Spelt (tokens_of_call a)
 call a h =
     more (keyword k.Call) (more (name a.body.name h.body)
-    (enclosed (commas tokens_of_outermost a.args (all_passed (λ x. Spelt (tokens_of_outermost x)) fits_expression outermost a.args h.args))))
+    (enclosed (commas tokens_of_outermost a.args (all_passed
+    (λ x. Spelt (tokens_of_outermost x)) fits_expression outermost a.args h.args))))
 
 handlers : (a : AsyncNode Name) → Fits a → Spelt (tokens_of_handlers a)
-handlers a h = both (both (handler k.Kill a.kill h.kill) (handler k.Suspend a.suspend h.suspend)) (handler k.Resume a.resume h.resume)
+handlers a h = both (both (handler k.Kill a.kill h.kill) (handler k.Suspend a.suspend h.suspend))
+    (handler k.Resume a.resume h.resume)
 
 pub async : (a : AsyncNode Name) → fits_async a ≡ true → Spelt (tokens_of_async a)
 async a h =
     let f = parts a h in
-    closed (both (both (more (keyword k.Async) (optional tokens_of_answer fits_name (λ n e. enclosed (single (name n.name e))) a.signal f.signal)) (call a f)) (handlers a f)) p.Semicolon
+    closed (both (both (more (keyword k.Async) (optional tokens_of_answer fits_name
+    (λ n e. enclosed (single (name n.name e))) a.signal f.signal)) (call a f)) (handlers a f)) p.Semicolon

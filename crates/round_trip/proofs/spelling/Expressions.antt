@@ -28,7 +28,8 @@ use Rattle.round_trip.proofs.spelling.Words.{IsSpelt, Spelt, name, plain, keywor
 
 pub integer : (n : ℤ) → is_written_integer n ≡ true → Spelt (tokens_of_integer n)
 integer (pos n) h = let small = ltb-true n (2 ^ 63) h in single (number n (omega (arith, small)))
-integer (negsuc n) h = let small = ltb-true n (2 ^ 63) h in more (mark p.Minus) (single (number (suc n) (omega (arith, small))))
+integer (negsuc n) h = let small = ltb-true n (2 ^ 63) h in more (mark p.Minus)
+    (single (number (suc n) (omega (arith, small))))
 
 truth : (b : Bool) → IsSpelt (token_of_truth b)
 truth true = keyword k.True
@@ -94,8 +95,14 @@ abbrev IsRight : Expr Name → Type 0
 IsRight x = has_written_words x ≡ true → Spelt (written x).value
 
 -- an operand, in parentheses where its place wants them
-part : (least : Level) (x : Expr Name) → IsRight x → has_written_words x ≡ true → Spelt (at in_parentheses least (written x))
-part least x f h = elim (is_looser (written x).level least) as (λ t. Spelt (if t then in_parentheses (written x).value else (written x).value)) [ true ↦ enclosed (f h) | false ↦ f h ]
+part : (least : Level) (x : Expr Name) → IsRight x → has_written_words x ≡ true
+    → Spelt (at in_parentheses least (written x))
+part least x f h = elim (is_looser (written x).level least) as
+    (λ t. Spelt (if t then in_parentheses (written x).value else (written x).value)) [
+      | true ↦
+          enclosed (f h)
+      | false ↦ f h
+    ]
 
 abbrev Node : Type 0
 Node = (x : ExprNode Name) × IsRightNode x
@@ -108,15 +115,21 @@ words_in : Layer → e.ExprNode-F Name Bool Bool
 words_in = map-ExprNode Name (ExprNode Name) (Expr Name) Bool Bool node_has_words has_written_words
 
 written_in : Layer → e.ExprNode-F Name (Levelled Lexemes) (Levelled Lexemes)
-written_in = map-ExprNode Name (ExprNode Name) (Expr Name) (Levelled Lexemes) (Levelled Lexemes) written_node written
+written_in = map-ExprNode Name (ExprNode Name) (Expr Name) (Levelled Lexemes)
+    (Levelled Lexemes) written_node written
 
-by_layer : (y : Layer) → (words_step (words_in y) ≡ true → Spelt (levelled_step in_parentheses node_step (written_in y)).value) → IsRightNode (roll-ExprNode Name y)
+by_layer : (y : Layer)
+    → (words_step (words_in y) ≡ true → Spelt (levelled_step in_parentheses node_step (written_in y)).value)
+    → IsRightNode (roll-ExprNode Name y)
 unfolding node_has_words words_in written_in
 by_layer y f h =
-    subst (λ (l : Levelled Lexemes). Spelt l.value) (sym (fold-roll-ExprNode Name (Levelled Lexemes) (Levelled Lexemes) (levelled_step in_parentheses node_step) (λ x. x.node) y))
+    subst (λ (l : Levelled Lexemes). Spelt l.value)
+    (sym (fold-roll-ExprNode Name (Levelled Lexemes) (Levelled Lexemes)
+    (levelled_step in_parentheses node_step) (λ x. x.node) y))
     (f (sym (fold-roll-ExprNode Name Bool Bool words_step (λ x. x.node) y) ∙ h))
 
-right_node : (y : e.ExprNode-F Name Node Part) → IsRightNode (roll-ExprNode Name (map-ExprNode Name Node Part (ExprNode Name) (Expr Name) (λ n. n.0) (λ n. n.0) y))
+right_node : (y : e.ExprNode-F Name Node Part) → IsRightNode
+    (roll-ExprNode Name (map-ExprNode Name Node Part (ExprNode Name) (Expr Name) (λ n. n.0) (λ n. n.0) y))
 unfolding words_in written_in
 right_node (e.Int n) = by_layer (e.Int n) (integer_word n)
   where
@@ -132,27 +145,36 @@ right_node (e.PreVal n) = by_layer (e.PreVal n) (read n (codes "preval") preval)
 right_node (e.Arg n) = by_layer (e.Arg n) (λ h. single (name n h))
 right_node (e.Not a) = by_layer (e.Not a.0) (λ h. more (mark p.Not) (part level.Operand a.0 a.1 h))
 right_node (e.Neg a) = by_layer (e.Neg a.0) (λ h. more (mark p.Minus) (part level.Operand a.0 a.1 h))
-right_node (e.Arith o a b) = by_layer (e.Arith o a.0 b.0) (λ h. let q = and_true _ _ h in both (part (level_of_op o) a.0 a.1 q.0) (more (operator o) (part (right_of_op o) b.0 b.1 q.1)))
-right_node (e.Compare r a b) = by_layer (e.Compare r a.0 b.0) (λ h. let q = and_true _ _ h in both (part level.Sum a.0 a.1 q.0) (more (relation r) (part level.Sum b.0 b.1 q.1)))
-right_node (e.And a b) = by_layer (e.And a.0 b.0) (λ h. let q = and_true _ _ h in both (part level.Both a.0 a.1 q.0) (more (mark p.And) (part level.Comparison b.0 b.1 q.1)))
-right_node (e.Or a b) = by_layer (e.Or a.0 b.0) (λ h. let q = and_true _ _ h in both (part level.Either a.0 a.1 q.0) (more (mark p.Or) (part level.Both b.0 b.1 q.1)))
+right_node (e.Arith o a b) = by_layer (e.Arith o a.0 b.0) (λ h. let q = and_true _ _ h in
+    both (part (level_of_op o) a.0 a.1 q.0) (more (operator o) (part (right_of_op o) b.0 b.1 q.1)))
+right_node (e.Compare r a b) = by_layer (e.Compare r a.0 b.0) (λ h. let q = and_true _ _ h in
+    both (part level.Sum a.0 a.1 q.0) (more (relation r) (part level.Sum b.0 b.1 q.1)))
+right_node (e.And a b) = by_layer (e.And a.0 b.0) (λ h. let q = and_true _ _ h in
+    both (part level.Both a.0 a.1 q.0) (more (mark p.And) (part level.Comparison b.0 b.1 q.1)))
+right_node (e.Or a b) = by_layer (e.Or a.0 b.0) (λ h. let q = and_true _ _ h in
+    both (part level.Either a.0 a.1 q.0) (more (mark p.Or) (part level.Both b.0 b.1 q.1)))
 right_node (e.Choose a b c) =
     by_layer (e.Choose a.0 b.0 c.0)
     (λ h. let q = and_true _ _ h in let r = and_true _ _ q.0 in
-    both (both (part level.Either a.0 a.1 r.0) (more (mark p.Question) (part level.Either b.0 b.1 r.1))) (more (mark p.Colon) (part level.Either c.0 c.1 q.1)))
+    both (both (part level.Either a.0 a.1 r.0) (more (mark p.Question) (part level.Either b.0 b.1 r.1)))
+    (more (mark p.Colon) (part level.Either c.0 c.1 q.1)))
 
-right_part : (y : e.Expr-F Name Node Part) → IsRight (roll-Expr Name (map-Expr Name Node Part (ExprNode Name) (Expr Name) (λ n. n.0) (λ n. n.0) y))
+right_part : (y : e.Expr-F Name Node Part)
+    → IsRight (roll-Expr Name (map-Expr Name Node Part (ExprNode Name) (Expr Name) (λ n. n.0) (λ n. n.0) y))
 unfolding node_has_words
 right_part y h =
     let x : e.Expr-F Name (ExprNode Name) (Expr Name) = record { pos = y.pos; node = y.node.0 } in
-    subst (λ (l : Levelled Lexemes). Spelt l.value) (sym (fold-roll-Expr Name (Levelled Lexemes) (Levelled Lexemes) (levelled_step in_parentheses node_step) (λ x. x.node) x))
+    subst (λ (l : Levelled Lexemes). Spelt l.value)
+    (sym (fold-roll-Expr Name (Levelled Lexemes) (Levelled Lexemes)
+    (levelled_step in_parentheses node_step) (λ x. x.node) x))
     (y.node.1 (sym (fold-roll-Expr Name Bool Bool words_step (λ x. x.node) x) ∙ h))
 
 is_right : (x : Expr Name) → IsRight x
 is_right =
     ind-Expr Name IsRightNode IsRight
     (λ x y is. subst (λ (z : Layer). IsRightNode (roll-ExprNode Name z)) is (right_node y))
-    (λ x y is. subst (λ (z : e.Expr-F Name (ExprNode Name) (Expr Name)). IsRight (roll-Expr Name z)) is (right_part y))
+    (λ x y is. subst (λ (z : e.Expr-F Name (ExprNode Name) (Expr Name)). IsRight (roll-Expr Name z)) is
+    (right_part y))
 
 pub expression : (x : Expr Name) → is_written_expression x ≡ true → Spelt (tokens_of_expression x)
 expression x h = is_right x (and_true _ _ h).0

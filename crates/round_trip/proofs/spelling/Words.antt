@@ -15,7 +15,7 @@ use Rattle.module_token.specs.declared.punct.Punct.TheVariants as p
 use Rattle.module_token.specs.declared.token.TokenKind.{TokenKind}
 use Rattle.module_token.specs.declared.token.TokenKind.TheVariants as token
 use Rattle.module_token.specs.Spelling.{punct_text}
-use Rattle.round_trip.specs.Lexemes.{IsLexeme}
+use Rattle.round_trip.proofs.Lexemes.{IsLexeme}
 use Rattle.module_printer.specs.ExpressionTokens.{Lexemes, in_parentheses}
 use Rattle.module_printer.specs.SourceTokens.{behind, comma_separated, if_there}
 use Rattle.round_trip.proofs.spelling.Blanks.{and_true, is_plain, plain_word}
@@ -84,20 +84,26 @@ enclosed h = more (mark p.LeftParen) (closed h p.RightParen)
 
 -- ---- lists of lists of words
 
-behind_each : {A : Type 0} (m : Punct) (words : A → Lexemes) (xs : List A) → AllByRecursion (λ a. Spelt (words a)) xs → Spelt (behind (punct_text m) (map words xs))
+behind_each : {A : Type 0} (m : Punct) (words : A → Lexemes) (xs : List A)
+    → AllByRecursion (λ a. Spelt (words a)) xs → Spelt (behind (punct_text m) (map words xs))
 behind_each m words [] h = none
 behind_each m words (a ∷ xs) h = more (mark m) (both h.0 (behind_each m words xs h.1))
 
-pub commas : {A : Type 0} (words : A → Lexemes) (xs : List A) → AllByRecursion (λ a. Spelt (words a)) xs → Spelt (comma_separated (map words xs))
+pub commas : {A : Type 0} (words : A → Lexemes) (xs : List A) → AllByRecursion (λ a. Spelt (words a)) xs
+    → Spelt (comma_separated (map words xs))
 commas words [] h = none
 commas words (a ∷ xs) h = both h.0 (behind_each p.Comma words xs h.1)
 
 -- ---- tests
 
-pub all_passed : {A : Type 0} (P : A → Type 0) (test : A → Bool) → ((a : A) → test a ≡ true → P a) → (xs : List A) → list_all test xs ≡ true → AllByRecursion P xs
+pub all_passed : {A : Type 0} (P : A → Type 0) (test : A → Bool) → ((a : A) → test a ≡ true → P a)
+    → (xs : List A) → list_all test xs ≡ true → AllByRecursion P xs
 all_passed P test f [] h = tt
-all_passed P test f (a ∷ xs) h = let q = and_true (test a) (list_all test xs) h in (f a q.0, all_passed P test f xs q.1)
+all_passed P test f (a ∷ xs) h = let q = and_true (test a) (list_all test xs) h in
+    (f a q.0, all_passed P test f xs q.1)
 
-pub optional : {A : Type 0} (words : A → Lexemes) (test : A → Bool) → ((a : A) → test a ≡ true → Spelt (words a)) → (x : Option A) → tests.if_there test x ≡ true → Spelt (if_there words x)
+pub optional : {A : Type 0} (words : A → Lexemes) (test : A → Bool)
+    → ((a : A) → test a ≡ true → Spelt (words a)) → (x : Option A) → tests.if_there test x ≡ true
+    → Spelt (if_there words x)
 optional words test f None h = none
 optional words test f (Some a) h = f a h

@@ -12,18 +12,27 @@ returns-in_err-item g c =
     let item = g.T.Listed.rule in
     let whole = part.listed item c.args.reader.now in
     reads_exit as_refusal whole _ _ c.in_err-item.field-0.0 c.from_residual-in_err-item.ensures.1
-    (list_fails (is_punct p.Comma) (part.behind_comma item) as_refusal whole c.each.list c.each.reader c.in_err-item.field-0.0 (sym c.sees_punct.ensures ∙ c.each-test.true) c.in_err-item.ensures c.each.invariant)
+    (list_fails (is_punct p.Comma) (part.behind_comma item) as_refusal whole c.each.list c.each.reader _
+    c.in_err-item.field-0.0 (sym c.sees_punct.ensures ∙ c.each-test.true) c.in_err-item.ensures
+    c.each.invariant)
 
 pub each-smaller : goal.each-smaller
-each-smaller g c = c.read.ensures.takes c.each.reader (c.in_ok-item.item, c.read_next.new.reader) c.in_ok-item.ensures
+each-smaller g c = c.read.ensures.takes c.each.reader (c.in_ok-item.item, c.read_next.new.reader)
+    c.in_ok-item.ensures
 
 pub each-preserved : goal.each-preserved
 each-preserved g c =
     let item = g.T.Listed.rule in
-    let lt = c.read.ensures.takes c.each.reader (c.in_ok-item.item, c.read_next.new.reader) c.in_ok-item.ensures in
+    let lt = c.read.ensures.takes c.each.reader (c.in_ok-item.item, c.read_next.new.reader)
+    c.in_ok-item.ensures in
     let whole = part.listed item c.args.reader.now in
-    let more = list_more (is_punct p.Comma) (part.behind_comma item) whole c.each.list c.each.reader c.in_ok-item.item c.read_next.new.reader (sym c.sees_punct.ensures ∙ c.each-test.true) c.in_ok-item.ensures lt c.each.invariant in
-    subst (λ xs. Rest (is_punct p.Comma) (part.behind_comma item) whole xs c.read_next.new.reader) (sym c.in_ok-push-2.ensures.ok) more
+    let more = list_more (is_punct p.Comma) (part.behind_comma item) whole c.each.list c.each.reader
+    c.in_ok-item.item c.read_next.new.reader (sym c.sees_punct.ensures ∙ c.each-test.true)
+    c.in_ok-item.ensures lt c.each.invariant in
+    subst (λ xs. Rest (is_punct p.Comma) (part.behind_comma item) whole xs c.read_next.new.reader)
+    (sym c.in_ok-push-2.ensures.ok) more
 
 pub returns : goal.returns
-returns g c = let item = g.T.Listed.rule in list_done (is_punct p.Comma) (part.behind_comma item) (part.listed item c.args.reader.now) c.each.list c.each.reader (sym c.sees_punct.ensures ∙ c.each-test.false) c.each.invariant
+returns g c = let item = g.T.Listed.rule in list_done (is_punct p.Comma) (part.behind_comma item)
+    (part.listed item c.args.reader.now) c.each.list c.each.reader
+    (sym c.sees_punct.ensures ∙ c.each-test.false) c.each.invariant

@@ -12,55 +12,76 @@ use Rattle.module_reader.proofs.read.read.Goals as goal
 pub returns-in-Err-read_tokens-clause-only : goal.returns-in-Err-read_tokens-clause-only
 returns-in-Err-read_tokens-clause-only c = λ m h.
     let text = c.args.text.now in
-    let same = ap (map to_grammar) (sym (c.in-Ok.ensures.only h.tokens h.has_tokens)) ∙ (same_tokens text c.in-Ok.tokens.items ∙ ap (cursor.toks text) (sym c.as_slice.ensures.value)) in
+    let same = ap (map to_grammar) (sym (c.in-Ok.ensures.only h.tokens h.has_tokens))
+    ∙ (same_tokens text c.in-Ok.tokens.items ∙ ap (cursor.toks text) (sym c.as_slice.ensures.value)) in
     subst (λ (f : ReadFault). f ≡ fault.NoMemory) (sym c.as_fault.ensures)
-    (reading.only_memory text h.tokens h.has_tokens (cursor.toks text c.as_slice.result.now) same c.in-Err-read_tokens.refused c.in-Err-read_tokens.ensures m h.spells)
+    (reading.only_memory text h.tokens h.has_tokens (cursor.toks text c.as_slice.result.now) same
+    c.in-Err-read_tokens.refused c.in-Err-read_tokens.ensures m h.spells)
 
 pub returns-in-Err-read_tokens-clause-fault : goal.returns-in-Err-read_tokens-clause-fault
 returns-in-Err-read_tokens-clause-fault c =
     let text = c.args.text.now in
     let same = same_tokens text c.in-Ok.tokens.items ∙ ap (cursor.toks text) (sym c.as_slice.ensures.value) in
     subst (IsFirstFault text) (sym c.as_fault.ensures)
-    (reading.of_grammar text (place.toks text c.in-Ok.tokens.items) c.in-Ok.ensures.found (cursor.toks text c.as_slice.result.now) same c.in-Err-read_tokens.refused c.in-Err-read_tokens.ensures)
+    (reading.of_grammar text (place.toks text c.in-Ok.tokens.items) c.in-Ok.ensures.found
+    (cursor.toks text c.as_slice.result.now) same c.in-Err-read_tokens.refused
+    c.in-Err-read_tokens.ensures)
 
 pub returns-in-Err-read_tokens-clause-by_rule : goal.returns-in-Err-read_tokens-clause-by_rule
 returns-in-Err-read_tokens-clause-by_rule c =
     let text = c.args.text.now in
     let same = same_tokens text c.in-Ok.tokens.items ∙ ap (cursor.toks text) (sym c.as_slice.ensures.value) in
     subst (IsByRule text) (sym c.as_fault.ensures)
-    (reading.by_rule text (cursor.toks text c.as_slice.result.now) (λ tokens has. ap (map to_grammar) (sym (c.in-Ok.ensures.only tokens has)) ∙ same) c.in-Err-read_tokens.refused c.in-Err-read_tokens.ensures)
+    (reading.by_rule text (cursor.toks text c.as_slice.result.now)
+    (λ tokens has. ap (map to_grammar) (sym (c.in-Ok.ensures.only tokens has)) ∙ same)
+    c.in-Err-read_tokens.refused c.in-Err-read_tokens.ensures)
 
 pub new-requires : goal.new-requires
 new-requires c =
     let text = c.args.text.now in
     let same = same_tokens text c.in-Ok.tokens.items ∙ ap (cursor.toks text) (sym c.as_slice.ensures.value) in
-    let has : has_module c.in-Ok-read_tokens.parts ≡ c.has_module.result = ap has_module (sym c.as_slice-in-Ok-read_tokens.ensures) ∙ sym c.has_module.ensures in
-    reading.is_source_tree text (place.toks text c.in-Ok.tokens.items) c.in-Ok.ensures.found (cursor.toks text c.as_slice.result.now) same c.in-Ok-read_tokens.parts (has ∙ c.if-has_module.true) c.in-Ok-read_tokens.ensures
+    let has : has_module c.in-Ok-read_tokens.parts ≡ c.has_module.result =
+    ap has_module (sym c.as_slice-in-Ok-read_tokens.ensures) ∙ sym c.has_module.ensures in
+    reading.is_source_tree text (place.toks text c.in-Ok.tokens.items) c.in-Ok.ensures.found
+    (cursor.toks text c.as_slice.result.now) same c.in-Ok-read_tokens.parts
+    (has ∙ c.if-has_module.true) c.in-Ok-read_tokens.ensures
 
 pub returns-then-has_module-clause-found : goal.returns-then-has_module-clause-found
 returns-then-has_module-clause-found c =
     let text = c.args.text.now in
     let same = same_tokens text c.in-Ok.tokens.items ∙ ap (cursor.toks text) (sym c.as_slice.ensures.value) in
-    let has : has_module c.in-Ok-read_tokens.parts ≡ c.has_module.result = ap has_module (sym c.as_slice-in-Ok-read_tokens.ensures) ∙ sym c.has_module.ensures in
+    let has : has_module c.in-Ok-read_tokens.parts ≡ c.has_module.result =
+    ap has_module (sym c.as_slice-in-Ok-read_tokens.ensures) ∙ sym c.has_module.ensures in
     subst (HasTree text) (sym c.new.ensures)
-    (reading.has_tree text (place.toks text c.in-Ok.tokens.items) c.in-Ok.ensures.found (cursor.toks text c.as_slice.result.now) same c.in-Ok-read_tokens.parts (has ∙ c.if-has_module.true) c.in-Ok-read_tokens.ensures)
+    (reading.has_tree text (place.toks text c.in-Ok.tokens.items) c.in-Ok.ensures.found
+    (cursor.toks text c.as_slice.result.now) same c.in-Ok-read_tokens.parts
+    (has ∙ c.if-has_module.true) c.in-Ok-read_tokens.ensures)
 
 pub returns-then-has_module-clause-only : goal.returns-then-has_module-clause-only
 returns-then-has_module-clause-only c = λ m h.
     let text = c.args.text.now in
-    let same = ap (map to_grammar) (sym (c.in-Ok.ensures.only h.tokens h.has_tokens)) ∙ (same_tokens text c.in-Ok.tokens.items ∙ ap (cursor.toks text) (sym c.as_slice.ensures.value)) in
-    c.new.ensures ∙ reading.only_tree text h.tokens h.has_tokens (cursor.toks text c.as_slice.result.now) same c.in-Ok-read_tokens.parts c.in-Ok-read_tokens.ensures m h.spells
+    let same = ap (map to_grammar) (sym (c.in-Ok.ensures.only h.tokens h.has_tokens))
+    ∙ (same_tokens text c.in-Ok.tokens.items ∙ ap (cursor.toks text) (sym c.as_slice.ensures.value)) in
+    c.new.ensures ∙ reading.only_tree text h.tokens h.has_tokens
+    (cursor.toks text c.as_slice.result.now) same c.in-Ok-read_tokens.parts c.in-Ok-read_tokens.ensures m
+    h.spells
 
 pub returns-clause-only : goal.returns-clause-only
 returns-clause-only c = λ m h.
     let text = c.args.text.now in
-    let same = ap (map to_grammar) (sym (c.in-Ok.ensures.only h.tokens h.has_tokens)) ∙ (same_tokens text c.in-Ok.tokens.items ∙ ap (cursor.toks text) (sym c.as_slice.ensures.value)) in
-    let has : has_module c.in-Ok-read_tokens.parts ≡ c.has_module.result = ap has_module (sym c.as_slice-in-Ok-read_tokens.ensures) ∙ sym c.has_module.ensures in
-    reading.only_module text h.tokens h.has_tokens (cursor.toks text c.as_slice.result.now) same c.in-Ok-read_tokens.parts (has ∙ c.if-has_module.false) c.in-Ok-read_tokens.ensures m h.spells
+    let same = ap (map to_grammar) (sym (c.in-Ok.ensures.only h.tokens h.has_tokens))
+    ∙ (same_tokens text c.in-Ok.tokens.items ∙ ap (cursor.toks text) (sym c.as_slice.ensures.value)) in
+    let has : has_module c.in-Ok-read_tokens.parts ≡ c.has_module.result =
+    ap has_module (sym c.as_slice-in-Ok-read_tokens.ensures) ∙ sym c.has_module.ensures in
+    reading.only_module text h.tokens h.has_tokens (cursor.toks text c.as_slice.result.now) same
+    c.in-Ok-read_tokens.parts (has ∙ c.if-has_module.false) c.in-Ok-read_tokens.ensures m h.spells
 
 pub returns-clause-fault : goal.returns-clause-fault
 returns-clause-fault c =
     let text = c.args.text.now in
     let same = same_tokens text c.in-Ok.tokens.items ∙ ap (cursor.toks text) (sym c.as_slice.ensures.value) in
-    let has : has_module c.in-Ok-read_tokens.parts ≡ c.has_module.result = ap has_module (sym c.as_slice-in-Ok-read_tokens.ensures) ∙ sym c.has_module.ensures in
-    reading.of_no_module text (place.toks text c.in-Ok.tokens.items) c.in-Ok.ensures.found (cursor.toks text c.as_slice.result.now) same c.in-Ok-read_tokens.parts (has ∙ c.if-has_module.false) c.in-Ok-read_tokens.ensures
+    let has : has_module c.in-Ok-read_tokens.parts ≡ c.has_module.result =
+    ap has_module (sym c.as_slice-in-Ok-read_tokens.ensures) ∙ sym c.has_module.ensures in
+    reading.of_no_module text (place.toks text c.in-Ok.tokens.items) c.in-Ok.ensures.found
+    (cursor.toks text c.as_slice.result.now) same c.in-Ok-read_tokens.parts
+    (has ∙ c.if-has_module.false) c.in-Ok-read_tokens.ensures

@@ -42,7 +42,9 @@ abbrev pub decreases-expression : goal.decreases-expr
 decreases-expression l = 20 * l.room + 19
 
 abbrev pub invariant-chain-terms : goal.invariant-chain-terms
-invariant-chain-terms l = Left (rule.operates l.grouping) (rule.term (rule.operator l.grouping) (rule.between l.grouping (rule.inside l.room))) applied (rule.chain l.grouping (rule.between l.grouping (rule.inside l.room)) l.fn.self) l.left l.self
+invariant-chain-terms l = Left (rule.operates l.grouping) (rule.term (rule.operator l.grouping)
+    (rule.between l.grouping (rule.inside l.room))) applied (rule.chain l.grouping
+    (rule.between l.grouping (rule.inside l.room)) l.fn.self) l.left l.self
 
 abbrev pub decreases-chain-terms : goal.decreases-chain-terms
 decreases-chain-terms l = length l.self.rest

@@ -12,17 +12,26 @@ pub returns-in_err-item : goal.returns-in_err-item
 returns-in_err-item c =
     let whole = rule.listed (rule.outermost c.args.room) c.args.self.now in
     reads_exit as_refusal whole _ _ c.in_err-item.field-0.0 c.from_residual-in_err-item.ensures.1
-    (list_fails (is_punct p.Comma) (rule.behind_comma (rule.outermost c.args.room)) as_refusal whole c.each.list c.each.self c.in_err-item.field-0.0 (sym c.sees_punct.ensures ∙ c.each-test.true) c.in_err-item.ensures c.each.invariant)
+    (list_fails (is_punct p.Comma) (rule.behind_comma (rule.outermost c.args.room)) as_refusal whole
+    c.each.list c.each.self _ c.in_err-item.field-0.0 (sym c.sees_punct.ensures ∙ c.each-test.true)
+    c.in_err-item.ensures c.each.invariant)
 
 pub each-smaller : goal.each-smaller
-each-smaller c = argument_takes c.args.room c.each.self (c.in_ok-item.item, c.next_outermost.new.self) c.in_ok-item.ensures
+each-smaller c = argument_takes c.args.room c.each.self (c.in_ok-item.item, c.next_outermost.new.self)
+    c.in_ok-item.ensures
 
 pub each-preserved : goal.each-preserved
 each-preserved c =
-    let lt = argument_takes c.args.room c.each.self (c.in_ok-item.item, c.next_outermost.new.self) c.in_ok-item.ensures in
+    let lt = argument_takes c.args.room c.each.self (c.in_ok-item.item, c.next_outermost.new.self)
+    c.in_ok-item.ensures in
     let whole = rule.listed (rule.outermost c.args.room) c.args.self.now in
-    let more = list_more (is_punct p.Comma) (rule.behind_comma (rule.outermost c.args.room)) whole c.each.list c.each.self c.in_ok-item.item c.next_outermost.new.self (sym c.sees_punct.ensures ∙ c.each-test.true) c.in_ok-item.ensures lt c.each.invariant in
-    subst (λ xs. Rest (is_punct p.Comma) (rule.behind_comma (rule.outermost c.args.room)) whole xs c.next_outermost.new.self) (sym c.in_ok-push-2.ensures.ok) more
+    let more = list_more (is_punct p.Comma) (rule.behind_comma (rule.outermost c.args.room)) whole c.each.list
+    c.each.self c.in_ok-item.item c.next_outermost.new.self
+    (sym c.sees_punct.ensures ∙ c.each-test.true) c.in_ok-item.ensures lt c.each.invariant in
+    subst (λ xs. Rest (is_punct p.Comma) (rule.behind_comma (rule.outermost c.args.room)) whole xs
+    c.next_outermost.new.self) (sym c.in_ok-push-2.ensures.ok) more
 
 pub returns : goal.returns
-returns c = list_done (is_punct p.Comma) (rule.behind_comma (rule.outermost c.args.room)) (rule.listed (rule.outermost c.args.room) c.args.self.now) c.each.list c.each.self (sym c.sees_punct.ensures ∙ c.each-test.false) c.each.invariant
+returns c = list_done (is_punct p.Comma) (rule.behind_comma (rule.outermost c.args.room))
+    (rule.listed (rule.outermost c.args.room) c.args.self.now) c.each.list c.each.self
+    (sym c.sees_punct.ensures ∙ c.each-test.false) c.each.invariant

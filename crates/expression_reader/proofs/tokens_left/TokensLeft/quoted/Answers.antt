@@ -6,4 +6,5 @@ use Rattle.expression_reader.proofs.tokens_left.TokensLeft.quoted.Goals as goal
 
 pub unreachable-requires-in_default : goal.unreachable-requires-in_default
 unreachable-requires-in_default c =
-    c.in_default.not-Quoted (first_quoted c.self.inside.text.now c.self.inside.rest.now _ (subst (λ ts. passes is_quoted (kind_of ts) ≡ true) (sym c.self.view_is) c.requires))
+    c.in_default.not-Quoted (first_quoted c.self.inside.text.now c.self.inside.rest.now _
+    (subst (λ ts. passes is_quoted (kind_of ts) ≡ true) (sym c.self.view_is) c.requires))

@@ -4,4 +4,5 @@ use Rattle.module_printer.specs.Printed.{spaced}
 use Rattle.module_printer.proofs.print.printer.Printer.behind_commas.Given as goal
 
 abbrev pub invariant-loop-item : goal.invariant-loop-item
-invariant-loop-item g l = l.self ≡ l.fn.self ++ spaced (behind (codes ",") (map g.T.Tokens.tokens (take l.item-index l.items)))
+invariant-loop-item g l = l.self ≡ l.fn.self ++ spaced (behind (codes ",")
+    (map g.T.Tokens.tokens (take l.item-index l.items)))
