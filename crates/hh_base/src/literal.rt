@@ -1,7 +1,7 @@
 //! Literals of values.
 ghost use Rattle.std.specs.Prelude.{◌≡◌, ℕ, ℤ, List, [], ◌∷◌, ◌++◌, true, Some, take, option_map, IfOk};
 ghost use Rattle.std.specs.Prelude.{IfSome, IsSomeAnd, IfNone, MatchResult, OnOk, OnErr, IsTrue, ◌↔◌};
-ghost use Rattle.std.specs.Prelude.{slice_index};
+ghost use Rattle.std.specs.Prelude.{slice_index, length, ◌<◌};
 ghost use Rattle.std.specs.Fmt.{signed_decimal};
 ghost use Rattle.std.specs.List.{flat_map};
 ghost use Rattle.std.specs.String.{string_bytes};
@@ -69,16 +69,19 @@ fn escape_of(letter: u8) -> Option<u8>
 }
 
 fn after_backslash(text: &[u8]) -> Option<(u8, &[u8])>
-    ensures { option_map (λ p. (p.0, p.1.now)) result ≡ after_backslash text.now }
+    ensures next { option_map (λ p. (p.0, p.1.now)) result ≡ after_backslash text.now }
+    ensures shorter { IfSome result (λ p. length p.1.now < length text.now) }
 {
     let (letter, rest) = text.split_first()?;
     let byte = escape_of(*letter)?;
     Some((byte, rest))
 }
 
-/// Between quotes: the first byte of the text, and what follows.
-fn next_byte(text: &[u8]) -> Option<(u8, &[u8])>
-    ensures { option_map (λ p. (p.0, p.1.now)) result ≡ next_byte text.now }
+/// Between quotes: the first byte of the text value, and what follows what is written for it. None at a quote, at a
+/// character below U+0020, and at a backslash that begins no escape.
+pub fn next_byte(text: &[u8]) -> Option<(u8, &[u8])>
+    ensures next { option_map (λ p. (p.0, p.1.now)) result ≡ next_byte text.now }
+    ensures shorter { IfSome result (λ p. length p.1.now < length text.now) }
 {
     let (first, rest) = text.split_first()?;
     if *first == b'\\' {

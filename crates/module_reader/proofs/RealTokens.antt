@@ -23,7 +23,7 @@ not_both : {X : Type 0} (b : Bool) → b ≡ false → b ≡ true → X
 not_both b e h = absurd (let no : ⊥ = cc in no)
 
 is_lawful : (at : ℕ) (text : List ℕ) (what : TokenKind) (rest : List ℕ) → IsToken text what rest
-    → IsLawful (to_grammar (record { pos = at; what = what; text = text }))
+    → IsLawful (to_grammar (record { place = at; what = what; text = text }))
 is_lawful at text kind.Word rest h = record {
   name = λ e. record { word = h.0.letters; short = h.1 };
   utf8 = λ e. h.0.utf8;

@@ -25,7 +25,7 @@ use Rattle.module_reader.specs.Reference as rule
 -- what a token of a text is to the grammar
 abbrev pub to_grammar : token.TextToken → Tok Terminal
 to_grammar t = record {
-  place = t.pos;
+  place = t.place;
   kind = terminal t.what t.text;
   text = spelled t.what t.text;
   value = value_of t.what;

@@ -38,30 +38,15 @@ pub record Read (text rest : List ℕ) (len : ℕ) : Type 0 where
 pub read_none : (text : List ℕ) → Read text text 0
 read_none text = record { value = []; plain = refl; split = refl; many = refl }
 
-abbrev RestIs : List ℕ → Option (ℕ × List ℕ) → Type 0
-RestIs others o = option_map (λ p. p.1) o ≡ Some others
-
-pub read_more : (text rest others : List ℕ) (len : ℕ) → Some others ≡ option_map (λ next. next.1) (next_byte rest) → Read text rest len → Read text others (len + 1)
-read_more text rest others len e r =
-    elim (next_byte rest) as (λ o. next_byte rest ≡ o → Some others ≡ option_map (λ next. next.1) o → Read text others (len + 1))
-    [ Some p ↦ λ is same. at p is (ends p same) | None ↦ λ is same. absurd (let no : ⊥ = cc in no) ] refl e
-  where
-    ends : (p : ℕ × List ℕ) → Some others ≡ Some p.1 → p.1 ≡ others
-    ends p h = cc
-
-    at : (p : ℕ × List ℕ) → next_byte rest ≡ Some p → p.1 ≡ others → Read text others (len + 1)
-    at (b, more) is same =
-        let f = found-next rest more b is in
-        record {
-          value = r.value ++ b ∷ [];
-          plain = plain-more r.value b r.plain f.1;
-          split = text-more r.value text rest others b r.split (f.0 ∙ ap (λ l. escaped b ++ l) same);
-          many = length-append r.value (b ∷ []) ∙ ap (λ n. n + 1) r.many;
-        }
-
-no_next : (rest : List ℕ) → None ≡ option_map (λ next. next.1) (next_byte rest) → next_byte rest ≡ None
-no_next rest e =
-    elim (next_byte rest) as (λ o. None ≡ option_map (λ next. next.1) o → o ≡ None) [ Some p ↦ λ h. absurd (let no : ⊥ = cc in no) | None ↦ λ h. refl ] e
+pub read_more : (text rest others : List ℕ) (b len : ℕ) → Some (b, others) ≡ next_byte rest → Read text rest len → Read text others (len + 1)
+read_more text rest others b len e r =
+    let f = found-next rest others b (sym e) in
+    record {
+      value = r.value ++ b ∷ [];
+      plain = plain-more r.value b r.plain f.1;
+      split = text-more r.value text rest others b r.split f.0;
+      many = length-append r.value (b ∷ []) ∙ ap (λ n. n + 1) r.many;
+    }
 
 escaped_some : (b : ℕ) → 1 ≤ length (escaped b)
 escaped_some b = grind (arith, nat_tests)
@@ -70,26 +55,26 @@ pub value_short : (v : List ℕ) → length v ≤ length (flat_map escaped v)
 value_short [] = omega arith
 value_short (b ∷ v) = omega (arith, value_short v, escaped_some b, length-append (escaped b) (flat_map escaped v))
 
-pub read_end : (text rest : List ℕ) (len : ℕ) → Read (drop 1 text) rest len → None ≡ option_map (λ next. next.1) (next_byte rest) → quote_end (length text - length rest) len rest ≡ quoted_front text
+pub read_end : (text rest : List ℕ) (len : ℕ) → Read (drop 1 text) rest len → None ≡ next_byte rest → quote_end (length text - length rest) len rest ≡ quoted_front text
 read_end text rest len r e =
     let fits : length r.value ≤ length (drop 1 text) = omega (arith, value_short r.value, ap length r.split, length-append (flat_map escaped r.value) rest) in
-    let runs = ap (run_for (length (drop 1 text))) r.split ∙ run_stops r.value rest (length (drop 1 text)) r.plain (no_next rest e) fits in
+    let runs = ap (run_for (length (drop 1 text))) r.split ∙ run_stops r.value rest (length (drop 1 text)) r.plain (sym e) fits in
     sym (ap (quoted_run text) runs ∙ ap (λ n. quote_end (length text - length rest) n rest) r.many)
 
-pub end_cuts : (text rest : List ℕ) (at n : ℕ) → IsUtf8 text → 0 < length text → drop at text ≡ rest → at + length rest ≡ length text → CutsAt text (quote_end at n rest)
-end_cuts text [] at n u some e l = some
-end_cuts text (b ∷ rest) at n u some e l =
-    elim (b == 34) as (λ t. (b == 34) ≡ t → CutsAt text (if t then (if nat_le n 4096 then front.Lexeme (at + 1) token.Quoted else front.Wrong 0 fault.TextLong) else if (b == 92) && nat_lt 0 (length rest) then front.Wrong at fault.BadEscape else front.Wrong 0 fault.TextOpen)) [
-      | true ↦ λ is. elim (nat_le n 4096) as (λ t. CutsAt text (if t then front.Lexeme (at + 1) token.Quoted else front.Wrong 0 fault.TextLong)) [ true ↦ (omega arith, IsCharBoundary-after_ascii text at u (omega (arith, l)) (low is)) | false ↦ some ]
-      | false ↦ λ is. elim ((b == 92) && nat_lt 0 (length rest)) as (λ t. CutsAt text (if t then front.Wrong at fault.BadEscape else front.Wrong 0 fault.TextOpen)) [ true ↦ omega (arith, l) | false ↦ some ]
+pub end_cuts : (text rest : List ℕ) (before n : ℕ) → IsUtf8 text → 0 < length text → drop before text ≡ rest → before + length rest ≡ length text → CutsAt text (quote_end before n rest)
+end_cuts text [] before n u some e l = some
+end_cuts text (b ∷ rest) before n u some e l =
+    elim (b == 34) as (λ t. (b == 34) ≡ t → CutsAt text (if t then (if nat_le n 4096 then front.Lexeme (before + 1) token.Quoted else front.Wrong 0 fault.TextLong) else if (b == 92) && nat_lt 0 (length rest) then front.Wrong before fault.BadEscape else front.Wrong 0 fault.TextOpen)) [
+      | true ↦ λ is. elim (nat_le n 4096) as (λ t. CutsAt text (if t then front.Lexeme (before + 1) token.Quoted else front.Wrong 0 fault.TextLong)) [ true ↦ (omega arith, IsCharBoundary-after_ascii text before u (omega (arith, l)) (low is)) | false ↦ some ]
+      | false ↦ λ is. elim ((b == 92) && nat_lt 0 (length rest)) as (λ t. CutsAt text (if t then front.Wrong before fault.BadEscape else front.Wrong 0 fault.TextOpen)) [ true ↦ omega (arith, l) | false ↦ some ]
     ] refl
   where
     quote : (b : ℕ) → (b == 34) ≡ true → b ≡ 34
     quote b is = grind (arith, nat_tests)
 
-    low : (b == 34) ≡ true → get_or text at 0 < 128
+    low : (b == 34) ≡ true → get_or text before 0 < 128
     low is =
-        let reads : get_or text at 0 ≡ b = ap (λ n. get_or text n 0) (omega arith) ∙ sym (get_or-drop at text 0 0) ∙ ap (λ (l : List ℕ). get_or l 0 0) e in
+        let reads : get_or text before 0 ≡ b = ap (λ n. get_or text n 0) (omega arith) ∙ sym (get_or-drop before text 0 0) ∙ ap (λ (l : List ℕ). get_or l 0 0) e in
         omega (arith, quote b is, reads)
 
 rest_at : (text front rest : List ℕ) → drop 1 text ≡ front ++ rest → 0 < length text → drop (length text - length rest) text ≡ rest

@@ -14,7 +14,7 @@ use Rattle.module_token.proofs.Found.{Fits, front_fits}
 use Rattle.module_token.proofs.Basics.{take_seam}
 
 abbrev pub tok_at : ℕ → ℕ → TokenKind → List ℕ → TextToken
-tok_at at n what text = record { pos = at; what = what; text = take n text }
+tok_at at n what text = record { place = at; what = what; text = take n text }
 
 -- how the reading goes on behind what stands at the front
 abbrev pub Next : ℕ → List ℕ → List TextToken → Option TokenFault → Front → Type 0
@@ -33,8 +33,8 @@ next_of {at} {text} (refused n kind h) = subst (Next at text [] (Some (fault_at 
 next_of {at} {end = end} (passed gap rest {tokens = tokens} h more) =
     subst (Next at (gap ++ rest) tokens end) (sym (gap_front gap rest h)) (subst (λ l. Tokenizes (at + length gap) l tokens end) (sym (drop-append_seam gap rest)) more)
 next_of {at} {end = end} (taken text rest what {tokens = tokens} h more) =
-    subst (Next at (text ++ rest) (record { pos = at; what = what; text = text } ∷ tokens) end) (sym (token_front text what rest h))
-    (tokens, ap (λ l. record { pos = at; what = what; text = l } ∷ tokens) (sym (take_seam text rest)), subst (λ l. Tokenizes (at + length text) l tokens end) (sym (drop-append_seam text rest)) more)
+    subst (Next at (text ++ rest) (record { place = at; what = what; text = text } ∷ tokens) end) (sym (token_front text what rest h))
+    (tokens, ap (λ l. record { place = at; what = what; text = l } ∷ tokens) (sym (take_seam text rest)), subst (λ l. Tokenizes (at + length text) l tokens end) (sym (drop-append_seam text rest)) more)
 
 length_taken : (n : ℕ) (text : List ℕ) → n ≤ length text → length (take n text) ≡ n
 length_taken n text l = omega (arith, length-take n text)

@@ -1,11 +1,17 @@
--- What stands at the front of a text, as a function of its bytes. The tokens of a text are defined without it, and a law says that the two agree.
-use Rattle.std.specs.Prelude.{ℕ, ◌+◌, ◌-◌, ◌^◌, ◌==◌, ◌&&◌, List, [], ◌∷◌, Option, Some, None, option_map, length, take, drop, nat_le, nat_lt, slice_index, if◌then◌else◌, zero, suc}
+-- A bridge, and no part of a promise: what stands at the front of a text, as a function of its bytes. The tokens of a
+-- text are defined without it, and a law says that the two agree.
+use Rattle.std.specs.Prelude.{ℕ, ◌+◌, ◌-◌, ◌==◌, ◌&&◌, List, [], ◌∷◌, Option, Some, None, option_map, length, take, drop, nat_le, nat_lt, codes, slice_index, if◌then◌else◌, zero, suc}
 use Rattle.std.specs.List.{prefix_len, position_or_len}
 use Rattle.std.specs.Char.{len_utf8, is_ascii_digit}
 use Rattle.std.specs.Str.{chars}
 use Rattle.std.specs.Str.Parse.{digits_value}
 use Rattle.unicode_ident.specs.Ident.{is_xid_continue}
+use Rattle.hh_base.specs.Bytes.{quote, backslash, line_feed}
 use Rattle.hh_base.specs.Name.{starts_word}
+use Rattle.hh_base.specs.declared.name.TheConstants.{NAME_LIMIT}
+use Rattle.hh_base.specs.declared.text.TheConstants.{TEXT_LIMIT}
+use Rattle.module_token.specs.declared.number.TheConstants.{NUMBER_LIMIT}
+use Rattle.module_token.specs.Bytes.{byte}
 use Rattle.hh_base.specs.Literal.{next_byte}
 use Rattle.module_token.specs.declared.fault.TokenFaultKind.TheVariants as fault
 use Rattle.module_token.specs.declared.front.Front.{Front}
@@ -22,34 +28,34 @@ use Rattle.hh_base.specs.Keyword.{keyword_of}
 
 abbrev pub short_mark : ℕ → Option Punct
 short_mark b =
-    if b == 40 then Some p.LeftParen
-    else if b == 41 then Some p.RightParen
-    else if b == 123 then Some p.LeftBrace
-    else if b == 125 then Some p.RightBrace
-    else if b == 44 then Some p.Comma
-    else if b == 59 then Some p.Semicolon
-    else if b == 58 then Some p.Colon
-    else if b == 46 then Some p.Dot
-    else if b == 61 then Some p.Equal
-    else if b == 63 then Some p.Question
-    else if b == 43 then Some p.Plus
-    else if b == 45 then Some p.Minus
-    else if b == 42 then Some p.Star
-    else if b == 47 then Some p.Slash
-    else if b == 37 then Some p.Percent
-    else if b == 33 then Some p.Not
-    else if b == 60 then Some p.Less
-    else if b == 62 then Some p.Greater
+    if b == byte (codes "(") then Some p.LeftParen
+    else if b == byte (codes ")") then Some p.RightParen
+    else if b == byte (codes "{") then Some p.LeftBrace
+    else if b == byte (codes "}") then Some p.RightBrace
+    else if b == byte (codes ",") then Some p.Comma
+    else if b == byte (codes ";") then Some p.Semicolon
+    else if b == byte (codes ":") then Some p.Colon
+    else if b == byte (codes ".") then Some p.Dot
+    else if b == byte (codes "=") then Some p.Equal
+    else if b == byte (codes "?") then Some p.Question
+    else if b == byte (codes "+") then Some p.Plus
+    else if b == byte (codes "-") then Some p.Minus
+    else if b == byte (codes "*") then Some p.Star
+    else if b == byte (codes "/") then Some p.Slash
+    else if b == byte (codes "%") then Some p.Percent
+    else if b == byte (codes "!") then Some p.Not
+    else if b == byte (codes "<") then Some p.Less
+    else if b == byte (codes ">") then Some p.Greater
     else None
 
 abbrev pub long_mark : ℕ → ℕ → Option Punct
 long_mark b d =
-    if (b == 61) && (d == 61) then Some p.EqualEqual
-    else if (b == 33) && (d == 61) then Some p.NotEqual
-    else if (b == 60) && (d == 61) then Some p.LessEqual
-    else if (b == 62) && (d == 61) then Some p.GreaterEqual
-    else if (b == 38) && (d == 38) then Some p.And
-    else if (b == 124) && (d == 124) then Some p.Or
+    if (b == byte (codes "=")) && (d == byte (codes "=")) then Some p.EqualEqual
+    else if (b == byte (codes "!")) && (d == byte (codes "=")) then Some p.NotEqual
+    else if (b == byte (codes "<")) && (d == byte (codes "=")) then Some p.LessEqual
+    else if (b == byte (codes ">")) && (d == byte (codes "=")) then Some p.GreaterEqual
+    else if (b == byte (codes "&")) && (d == byte (codes "&")) then Some p.And
+    else if (b == byte (codes "|")) && (d == byte (codes "|")) then Some p.Or
     else None
 
 abbrev pub short_found : Option Punct → Front
@@ -71,8 +77,8 @@ comment_found None = front.Wrong 0 fault.CommentOpen
 
 abbrev pub pair_front : ℕ → ℕ → List ℕ → Front
 pair_front b d text =
-    if (b == 47) && (d == 47) then front.Gap (position_or_len (λ c. c == 10) text)
-    else if (b == 47) && (d == 42) then comment_found (close_of (drop 2 text))
+    if (b == byte (codes "/")) && (d == byte (codes "/")) then front.Gap (position_or_len (λ c. c == line_feed) text)
+    else if (b == byte (codes "/")) && (d == byte (codes "*")) then comment_found (close_of (drop 2 text))
     else long_found b (long_mark b d)
 
 abbrev pub sign_front : List ℕ → Front
@@ -92,7 +98,7 @@ word_found (Some keyword) = token.Keyword keyword
 word_found None = token.Word
 
 abbrev pub word_cut : ℕ → List ℕ → Front
-word_cut n text = if nat_le n 255 then front.Lexeme n (word_found (keyword_of (take n text))) else front.Wrong 0 fault.NameLong
+word_cut n text = if nat_le n NAME_LIMIT then front.Lexeme n (word_found (keyword_of (take n text))) else front.Wrong 0 fault.NameLong
 
 abbrev pub word_front : List ℕ → Front
 word_front text = word_cut (word_len (chars text)) text
@@ -100,7 +106,7 @@ word_front text = word_cut (word_len (chars text)) text
 -- ---- numbers
 
 abbrev pub number_cut : ℕ → ℕ → Front
-number_cut n value = if nat_le value (2 ^ 63) then front.Lexeme n (token.Number value) else front.Wrong 0 fault.NumberLarge
+number_cut n value = if nat_le value NUMBER_LIMIT then front.Lexeme n (token.Number value) else front.Wrong 0 fault.NumberLarge
 
 abbrev pub number_front : List ℕ → Front
 number_front text = number_cut (prefix_len is_ascii_digit text) (digits_value 10 (take (prefix_len is_ascii_digit text) text))
@@ -122,12 +128,12 @@ abbrev pub run_for : ℕ → List ℕ → ℕ × List ℕ
 run_for zero bs = stop bs
 run_for (suc n) bs = run_on (run_for n) bs (next_byte bs)
 
--- what ends a quoted text whose value has n bytes, at bytes from the front
+-- what ends a quoted text of n bytes of value, so many bytes from the front
 abbrev pub quote_end : ℕ → ℕ → List ℕ → Front
-quote_end at n [] = front.Wrong 0 fault.TextOpen
-quote_end at n (b ∷ rest) =
-    if b == 34 then (if nat_le n 4096 then front.Lexeme (at + 1) token.Quoted else front.Wrong 0 fault.TextLong)
-    else if (b == 92) && nat_lt 0 (length rest) then front.Wrong at fault.BadEscape
+quote_end before n [] = front.Wrong 0 fault.TextOpen
+quote_end before n (b ∷ rest) =
+    if b == quote then (if nat_le n TEXT_LIMIT then front.Lexeme (before + 1) token.Quoted else front.Wrong 0 fault.TextLong)
+    else if (b == backslash) && nat_lt 0 (length rest) then front.Wrong before fault.BadEscape
     else front.Wrong 0 fault.TextOpen
 
 abbrev pub quoted_run : List ℕ → ℕ × List ℕ → Front
@@ -143,7 +149,7 @@ front_by [] text = front.End
 front_by (c ∷ cs) text =
     if is_blank c then front.Gap 1
     else if is_ascii_digit c then number_front text
-    else if c == 34 then quoted_front text
+    else if c == quote then quoted_front text
     else if starts_word c then word_front text
     else sign_front text
 

@@ -7,7 +7,7 @@ use Rattle.module_token.specs.Tokens.{TextToken}
 
 -- the token with its bytes
 abbrev pub tok : List ℕ → Token → TextToken
-tok text t = record { pos = t.start; what = t.what; text = slice_range text t.start t.«end» }
+tok text t = record { place = t.start; what = t.what; text = slice_range text t.start t.«end» }
 
 abbrev pub toks : List ℕ → List Token → List TextToken
 toks text tokens = map (tok text) tokens
@@ -21,5 +21,5 @@ pub record InText (text : List ℕ) (t : Token) : Type 0 where
 
 -- from a place on to another, the tokens stand one behind the other
 abbrev pub Rising : ℕ → List Token → ℕ → Type 0
-Rising at [] end = at ≤ end
-Rising at (t ∷ ts) end = (at ≤ t.start) × Rising t.«end» ts end
+Rising place [] end = place ≤ end
+Rising place (t ∷ ts) end = (place ≤ t.start) × Rising t.«end» ts end

@@ -1,8 +1,10 @@
 -- Which bytes spell which token, before what follows. This project's own, after HipHop.js; words are those of Unicode Standard Annex 31.
-use Rattle.std.specs.Prelude.{◌≡◌, ℕ, ◌≤◌, ◌^◌, Bool, true, false, List, [], ◌∷◌, ◌++◌, length}
+use Rattle.std.specs.Prelude.{◌≡◌, ℕ, ◌≤◌, Bool, true, false, List, [], ◌∷◌, ◌++◌, length}
 use Rattle.std.specs.Char.{is_ascii_digit}
 use Rattle.std.specs.Str.{chars, is_utf8}
 use Rattle.unicode_ident.specs.Ident.{is_xid_continue}
+use Rattle.hh_base.specs.declared.name.TheConstants.{NAME_LIMIT}
+use Rattle.module_token.specs.declared.number.TheConstants.{NUMBER_LIMIT}
 use Rattle.hh_base.specs.Keyword.{is_keyword, keyword_text}
 use Rattle.hh_base.specs.Literal.{IsNumber, quoted}
 use Rattle.hh_base.specs.Name.{is_word}
@@ -41,8 +43,8 @@ pub record IsLongestMark (text rest : List ℕ) (mark : Punct) : Type 0 where
 
 -- the bytes spell the token, and what follows does not make it longer
 abbrev pub IsToken : List ℕ → TokenKind → List ℕ → Type 0
-IsToken text token.Word rest = IsLongestWord text rest × (length text ≤ 255) × (is_keyword text ≡ false)
+IsToken text token.Word rest = IsLongestWord text rest × (length text ≤ NAME_LIMIT) × (is_keyword text ≡ false)
 IsToken text (token.Keyword keyword) rest = IsLongestWord text rest × (text ≡ keyword_text keyword)
-IsToken text (token.Number value) rest = IsLongestNumber text rest value × (value ≤ 2 ^ 63)
+IsToken text (token.Number value) rest = IsLongestNumber text rest value × (value ≤ NUMBER_LIMIT)
 IsToken text token.Quoted rest = (value : List ℕ) × IsText value × (text ≡ quoted value)
 IsToken text (token.Punct mark) rest = IsLongestMark text rest mark

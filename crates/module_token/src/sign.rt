@@ -1,7 +1,9 @@
 //! Punctuation and comments.
-ghost use Rattle.std.specs.Prelude.{◌≡◌, ◌<◌, ◌==◌, length, drop, slice_index, IfSome};
+ghost use Rattle.std.specs.Prelude.{◌≡◌, ◌<◌, ◌==◌, codes, length, drop, slice_index, IfSome};
 ghost use Rattle.std.specs.List.{position_or_len};
 ghost use Rattle.std.specs.Str.{IsCharBoundary};
+ghost use Rattle.hh_base.specs.Bytes.{line_feed};
+ghost use Rattle.module_token.specs.Bytes.{byte};
 ghost use Rattle.module_token.specs.Cut.{CutsAt};
 ghost use Rattle.module_token.specs.Front.{close_of, comment_found, long_mark, pair_front, short_found, short_mark, sign_front};
 
@@ -55,7 +57,7 @@ fn long_mark(first: u8, second: u8) -> Option<Punct>
 /// How many bytes stand before the first LF, or before the end.
 #[tactic(auto, using(crate::proofs::Lines::line_found, crate::proofs::Lines::line_none))]
 fn line_len(text: &str) -> usize
-    ensures len { result ≡ position_or_len (λ c. c == 10) text.now }
+    ensures len { result ≡ position_or_len (λ c. c == line_feed) text.now }
     ensures cut { IsCharBoundary text.now result }
 {
     match text.find('\n') {
@@ -80,7 +82,7 @@ fn close_of(body: &str) -> Option<usize>
 #[tactic(auto, using(crate::proofs::Cuts::after_two))]
 fn comment(text: &str) -> Front
     requires both { 1 < length text.now }
-    requires second { slice_index text.now 1 ≡ 42 }
+    requires second { slice_index text.now 1 ≡ byte (codes "*") }
     ensures value { result ≡ comment_found (close_of (drop 2 text.now)) }
     ensures cut { CutsAt text.now result }
 {

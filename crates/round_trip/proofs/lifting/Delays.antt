@@ -106,7 +106,7 @@ module _ (x : ExprAt Name) (room : ℕ) (fits : fits_expression x ≡ true) (le 
   outer_lifted (t ∷ ts) h =
       let y = expression_lifts.lift (t ∷ ts) h in
       record {
-        tree = (t.pos, y.tree);
+        tree = (t.place, y.tree);
         marks = ranks 0 y.marks;
         is_text = (y.marks, (to_grammar t, map to_grammar ts, refl, refl, y.is_text), refl);
         few = few_ranks symbols 0 y.marks (omega (arith, few_marks (t ∷ ts) h y));

@@ -71,7 +71,7 @@ lawful [] [] h = tt
 lawful [] (t ∷ ts) h = absurd h
 lawful (w ∷ ws) [] h = absurd h
 lawful (w ∷ ws) (t ∷ ts) h = (
-  kind_lawful t.what t.pos t.text
+  kind_lawful t.what t.place t.text
       (subst (λ z. IsLexeme z t.what) (sym h.0) h.1),
   lawful ws ts h.2,
 )

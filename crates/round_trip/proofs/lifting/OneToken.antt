@@ -74,7 +74,7 @@ Any a = Unit {0}
 terminal_spelled : (a : Terminal) (kind : TokenKind) (w : List ℕ) → terminal kind w ≡ a → Only kind w
     → Spelled Any (l.token a) w
 terminal_spelled a kind w same only t e h =
-    (t.pos, (to_grammar t, refl, rw (e, only t.what h) same, refl, refl), tt)
+    (t.place, (to_grammar t, refl, rw (e, only t.what h) same, refl, refl), tt)
 
 pub lifts_keyword : (keyword : Keyword) → Lifts Any (g.keyword keyword) (keyword_text keyword ∷ [])
 lifts_keyword keyword = lifts_plainly (g.keyword keyword) (terminal_spelled (t.Keyword keyword)
@@ -168,7 +168,7 @@ word_is_name w = (word_kind w).is
 
 name_spelled : (w : List ℕ) → is_written_name w ≡ true → Spelled (λ (n : TextAt). n.1 ≡ w) g.name w
 name_spelled w n t e h = (
-  (t.pos, spelled t.what t.text),
+  (t.place, spelled t.what t.text),
   (
     to_grammar t,
     refl,
@@ -189,7 +189,7 @@ lifts_name_mark w n = lifts_counted g.name (name_spelled w n)
 
 quoted_spelled : (v : List ℕ) → IsText v → Spelled (λ (n : TextAt). n.1 ≡ v) g.quoted (literal.quoted v)
 quoted_spelled v x t e h = (
-  (t.pos, spelled t.what t.text),
+  (t.place, spelled t.what t.text),
   (to_grammar t, refl, rw (only_quoted v t.what h) refl, refl, refl),
   rw
       (e, only_quoted v t.what h) (value_of_quoted v (literal.quoted v) x refl),
@@ -206,7 +206,7 @@ module _ (least most n : ℕ) (low : least ≤ n) (high : n ≤ most) (small : n
   number_spelled : Spelled (λ (z : ℕ × ℕ). z.1 ≡ n) (g.number least most) (decimal n)
   number_spelled t e h =
       let kind = only_number n t.what small h in (
-        (t.pos, value_of t.what),
+        (t.place, value_of t.what),
         (
           to_grammar t,
           refl,

@@ -39,7 +39,7 @@ module _ (b : ℕ) (text : List ℕ) (words : List (List ℕ)) (blank : is_blank
       let text_of : (at : ℕ) → (ts : List TextToken) × Tokenizes at (w ++ b ∷ text) ts None
       × Spells (w ∷ words) ts =
       λ at. let q = reads.1 (at + length w) in (
-        record { pos = at; what = lexeme.0; text = w } ∷ q.0,
+        record { place = at; what = lexeme.0; text = w } ∷ q.0,
         taken w (b ∷ text) lexeme.0
             (before_blank w lexeme.0 b text blank lexeme.1) q.1,
         (refl, lexeme.1, q.2),

@@ -8,7 +8,7 @@ pub returns-then-not-is_quote-clause-only : goal.returns-then-not-is_quote-claus
 returns-then-not-is_quote-clause-only c t plain is =
     let loop = c.loop-byte in
     no-text loop.bytes.items t loop.rest.now loop.invariant.plain plain (sym loop.invariant.split ∙ is)
-    (sym c.in_default.ensures)
+    (sym c.in_default.ensures.next)
     (λ e. let quote : c.is_quote.result ≡ true = c.is_quote.ensures.1 e in let no : ⊥ = cc in no)
 
 pub returns-clause-only : goal.returns-clause-only

@@ -56,7 +56,7 @@ loop-tokens-preserved c =
     let read = read_token text at.at (toks text at.tokens.items) (IsUtf8-drop text at.at c.utf8.text at.invariant.cut) at.invariant.read n c.in-Lexeme.what (c.in-Lexeme.ensures.value ∙ ap front_of c.split_at.ensures.back) in
     let front_is = c.in-Lexeme.ensures.value ∙ ap front_of c.split_at.ensures.back in
     let spells : IsToken (slice_range text at.at (at.at + n)) c.in-Lexeme.what (drop (at.at + n) text) = token_spells text at.at n c.in-Lexeme.what (IsUtf8-drop text at.at c.utf8.text at.invariant.cut) front_is in
-    let same : toks text (at.tokens.items ++ token ∷ []) ≡ toks text at.tokens.items ++ record { pos = at.at; what = c.in-Lexeme.what; text = take n (drop at.at text) } ∷ [] = toks_push text at.tokens.items token ∙ ap (λ (l : List ℕ). toks text at.tokens.items ++ record { pos = at.at; what = c.in-Lexeme.what; text = l } ∷ []) spelled in
+    let same : toks text (at.tokens.items ++ token ∷ []) ≡ toks text at.tokens.items ++ record { place = at.at; what = c.in-Lexeme.what; text = take n (drop at.at text) } ∷ [] = toks_push text at.tokens.items token ∙ ap (λ (l : List ℕ). toks text at.tokens.items ++ record { place = at.at; what = c.in-Lexeme.what; text = l } ∷ []) spelled in
     rw c.in_ok-push-in-Lexeme.ensures.items (record {
       cut = last;
       read = subst (IsReadTo text (at.at + n)) (sym same) read;
