@@ -43,7 +43,7 @@ fn read_count_delay(reader: &mut Reader<'_>, room: u8) -> Result<Later<Name>, St
 fn read_once(reader: &mut Reader<'_>, room: u8) -> Result<Later<Name>, StepError>
     ensures { Reads as_refusal (rule.once room reader.old) result reader.new }
 {
-    let expr = reader.tested(room)?;
+    let expr = reader.test(room)?;
     Ok(Later::Once(expr))
 }
 
@@ -63,7 +63,7 @@ fn read_immediate(reader: &mut Reader<'_>, room: u8) -> Result<Delay<Name>, Step
     ensures { Reads as_refusal (rule.immediate room reader.old) result reader.new }
 {
     reader.keyword(Keyword::Immediate)?;
-    let expr = reader.tested(room)?;
+    let expr = reader.test(room)?;
     Ok(Delay::Immediate(expr))
 }
 
@@ -106,7 +106,7 @@ fn read_emitted(reader: &mut Reader<'_>, room: u8) -> Result<Option<ExprAt<Name>
     if !reader.sees_punct(Punct::LeftParen) {
         return Ok(None);
     }
-    Ok(Some(reader.tested(room)?))
+    Ok(Some(reader.test(room)?))
 }
 
 /// A signal, and its value where there is one.

@@ -155,7 +155,7 @@ fn read_if_else(reader: &mut Reader<'_>, room: u8) -> Result<StatementNode<Name>
     ensures { Reads as_refusal (rule.if_else (rule.block room) room reader.old) result reader.new }
 {
     let pos = reader.keyword(Keyword::If)?;
-    let test = reader.tested(room)?;
+    let test = reader.test(room)?;
     let then = read_block(reader, room)?;
     let other = read_behind_else(reader, room)?;
     Ok(statement_at(pos, Statement::If(test, then, other)))
@@ -258,7 +258,7 @@ fn read_suspend(reader: &mut Reader<'_>, room: u8) -> Result<StatementNode<Name>
 {
     let pos = reader.keyword(Keyword::Suspend)?;
     let immediate = read_whether_immediate(reader)?;
-    let test = reader.tested(room)?;
+    let test = reader.test(room)?;
     let block = read_block(reader, room)?;
     Ok(statement_at(pos, Statement::Suspend(immediate, test, block)))
 }

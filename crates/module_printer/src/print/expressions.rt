@@ -38,6 +38,7 @@ fn rel_token(rel: Rel) -> &'static str
     }
 }
 
+/// The keyword of a truth value.
 pub fn truth_token(truth: bool) -> &'static str
     ensures { result.now ≡ token_of_truth truth }
 {
@@ -134,6 +135,7 @@ impl Printer {
         }
     }
 
+    /// Writes an expression, with no parentheses round the whole.
     pub fn expression(&mut self, expr: &Expr<Name>) -> Result<(), NoMemory>
         ensures { Writes result self.old self.new (tokens_of_expression expr.now) }
     {

@@ -14,7 +14,7 @@ use hh_base::text::Text;
 use std::alloc::Global;
 use std::marker::Model;
 
-/// Writes tokens, each behind a space. Contracts see the bytes that are written.
+/// The text that is printed so far: tokens, each behind a space. Contracts see its bytes.
 #[derive(Drop)]
 pub struct Printer {
     alloc: Global,
@@ -38,6 +38,7 @@ pub trait Printable {
 }
 
 impl Printer {
+    /// A printer that has written nothing.
     pub fn new(alloc: Global) -> Printer
         ensures { result ≡ [] }
     {
@@ -47,7 +48,7 @@ impl Printer {
         }
     }
 
-    /// The bytes that are written. Takes no memory.
+    /// The text that was written, as bytes.
     pub fn into_bytes(self) -> Vec<u8>
         ensures { result.items ≡ self }
     {
@@ -62,6 +63,7 @@ impl Printer {
         Ok(())
     }
 
+    /// Ends a line by an LF.
     pub fn end_line(&mut self) -> Result<(), NoMemory>
         ensures { Appends result self.old self.new (line_feed ∷ []) }
     {
@@ -69,6 +71,7 @@ impl Printer {
         Ok(())
     }
 
+    /// Writes a token, given its text.
     pub fn token(&mut self, text: &str) -> Result<(), NoMemory>
         ensures { Writes result self.old self.new (text.now ∷ []) }
     {
@@ -77,6 +80,7 @@ impl Printer {
         Ok(())
     }
 
+    /// Writes a number in decimal digits.
     pub fn number(&mut self, number: u64) -> Result<(), NoMemory>
         ensures { Writes result self.old self.new (decimal number ∷ []) }
     {
@@ -94,6 +98,7 @@ impl Printer {
         self.number(number.unsigned_abs())
     }
 
+    /// Writes a text between quotes, with its escapes.
     pub fn text(&mut self, text: &Text) -> Result<(), NoMemory>
         ensures { Writes result self.old self.new (quoted text.now ∷ []) }
     {

@@ -276,6 +276,7 @@ impl Printer {
         self.branches(blocks)
     }
 
+    /// Writes a statement, with its blocks and its semicolon.
     #[cycle(statement)]
     pub fn statement(&mut self, statement: &Statement<Name>) -> Result<(), NoMemory>
         ensures { Writes result self.old self.new (tokens_of_statement statement.now) }
