@@ -1,5 +1,6 @@
 -- What holds of a reader and a language together: the bundle `Good`, which each rule of a grammar has.
-use Rattle.std.proofs.Common.{◌≡◌, ℕ, suc, ◌+◌, ◌<◌, Bool, true, false, List, [], ◌∷◌, ◌++◌, length, Some, Ok, Err, refl, sym, ap, subst, arith, cond, ◌⊎◌, inl, inr}
+use Rattle.std.proofs.Common.{◌≡◌, ℕ, suc, ◌+◌, ◌<◌, Bool, true, false, List, [], ◌∷◌, ◌++◌, length, Some, Ok}
+use Rattle.std.proofs.Common.{Err, refl, sym, ap, subst, arith, cond, ◌⊎◌, inl, inr}
 use Rattle.std.proofs.lemmas.List.{length-append}
 use Rattle.grammar.specs.Tokens.{Tok, Alphabet, kind_of, place_of, passes, how_many, in_range}
 use Rattle.grammar.specs.Fault.{Fault, Unexpected, EndOfText, Deep, Large, OutOfRange, Refusal}
@@ -23,8 +24,8 @@ Firsts R (x ∷ xs) [] = ⊥
 Firsts R (x ∷ xs) (y ∷ ys) = R x y
 
 -- What the count of leaves and operators is to the marks of a text: the limit is not passed in them and they
--- take the one count to the other; it is passed in them; at this count a token of this mark is the first past
--- it.
+-- take the one count to the other; it is passed in them; at this count a token of this mark is the first
+-- past it.
 pub record Level : Type 1 where
   pub after : ℕ → List ℕ → ℕ → Type 0
   pub over : ℕ → List ℕ → Type 0
@@ -161,8 +162,8 @@ Sample {K} {A} s = (a : A) × (u : List (Tok K)) × (ms : List ℕ) × s a u ms
 -- ---- the bundle
 
 -- The reader p reads the language s. x: how many more brackets the language may have open than are read. n
--- and m: how many brackets may be opened before and behind.
--- empty: whether a text may be empty. first: what may begin one. cont: what may not stand behind one.
+-- and m: how many brackets may be opened before and behind. empty: whether a text may be empty. first: what
+-- may begin one. cont: what may not stand behind one.
 pub record Good {K A : Type 0} (al : Alphabet K) (x : ℕ) (v : Level) (n m : ℕ) (p : Parser K A) (s : Lang K A)
     (empty : Bool) (first cont : K → Bool) : Type 0 where
   -- what is read is a text of the language, and where reading stops one goes on

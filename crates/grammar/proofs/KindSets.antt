@@ -1,5 +1,6 @@
 -- Sets of kinds: a test of all kinds, one after the other, says what holds of any kind.
-use Rattle.std.proofs.Common.{◌≡◌, ℕ, zero, suc, Bool, true, false, List, [], ◌∷◌, Option, Some, None, refl, sym, ap, ◌∙◌}
+use Rattle.std.proofs.Common.{◌≡◌, ℕ, zero, suc, Bool, true, false, List, [], ◌∷◌, Option, Some, None, refl}
+use Rattle.std.proofs.Common.{sym, ap, ◌∙◌}
 use Rattle.std.specs.Prelude.{not, ◌||◌, ◌&&◌, unwrap_or}
 use Rattle.std.proofs.lemmas.Bool.{eqb-true, eq-eqb}
 use Rattle.grammar.specs.Tokens.{Alphabet, nth, is, passes}
@@ -76,7 +77,8 @@ module _ {K : Type 0} (al : Alphabet K) where
   apart a b e k h = apart_of (a k) (b k) (at_each (λ k. not (a k) || not (b k)) e k) h
 
   -- the same of the next token, which may be the end
-  pub within_next : (a b : K → Bool) → ((k : K) → b k ≡ false → a k ≡ false) → (o : Option K) → passes b o ≡ false → passes a o ≡ false
+  pub within_next : (a b : K → Bool) → ((k : K) → b k ≡ false → a k ≡ false) → (o : Option K)
+      → passes b o ≡ false → passes a o ≡ false
   within_next a b h None e = refl
   within_next a b h (Some k) e = h k e
 
@@ -86,7 +88,8 @@ module _ {K : Type 0} (al : Alphabet K) where
   -- kinds are told apart by their numbers
   pub is_kind : (a b : K) → is al a b ≡ true → b ≡ a
   unfolding kind_from
-  is_kind a b e = ap (kind_from b) (sym (al.is_listed b) ∙ ap (nth al.kinds) (eqb-true (al.class b) (al.class a) e) ∙ al.is_listed a)
+  is_kind a b e = ap (kind_from b) (sym (al.is_listed b)
+      ∙ ap (nth al.kinds) (eqb-true (al.class b) (al.class a) e) ∙ al.is_listed a)
 
   pub is_self : (a : K) → is al a a ≡ true
   is_self a = eq-eqb (al.class a) (al.class a) refl

@@ -1,5 +1,7 @@
--- The two levels at which leaves and operators are counted: inside an expression by marks, around expressions by ranks.
-use Rattle.std.proofs.Common.{◌≡◌, ℕ, zero, suc, ◌+◌, ◌<◌, ◌≤◌, List, [], ◌∷◌, ◌++◌, length, refl, ap, ◌∙◌, arith}
+-- The two levels at which leaves and operators are counted: inside an expression by marks, around
+-- expressions by ranks.
+use Rattle.std.proofs.Common.{◌≡◌, ℕ, zero, suc, ◌+◌, ◌<◌, ◌≤◌, List, [], ◌∷◌, ◌++◌, length, refl, ap, ◌∙◌}
+use Rattle.std.proofs.Common.{arith}
 use Rattle.std.specs.List.{AllByRecursion}
 use Rattle.grammar.specs.Tokens.{Alphabet}
 use Rattle.grammar.specs.Language.{ranks}
@@ -64,7 +66,8 @@ module _ {K : Type 0} (al : Alphabet K) where
   few_ranks c (zero ∷ ms) le = (omega arith, few_ranks c ms le)
   few_ranks c (suc m ∷ ms) le = (omega (arith, le), few_ranks (suc c) ms (omega (arith, le)))
 
-  pub many_ranks : (c : ℕ) (ms : List ℕ) → c ≤ al.most_counted → al.most_counted < c + marked ms → Few al (ranks c ms) → ⊥
+  pub many_ranks : (c : ℕ) (ms : List ℕ) → c ≤ al.most_counted → al.most_counted < c + marked ms
+      → Few al (ranks c ms) → ⊥
   many_ranks c [] le lt h = let no : ⊥ = omega (arith, le, lt) in no
   many_ranks c (zero ∷ ms) le lt h = many_ranks c ms le lt h.1
   many_ranks c (suc m ∷ ms) le lt h = many_ranks (suc c) ms h.0 (omega (arith, lt)) h.1
@@ -72,7 +75,9 @@ module _ {K : Type 0} (al : Alphabet K) where
 pub ranks-append : (c : ℕ) (p q : List ℕ) → ranks c (p ++ q) ≡ ranks c p ++ ranks (c + marked p) q
 ranks-append c [] q = ap (λ n. ranks n q) (let e : c ≡ c + 0 = omega arith in e)
 ranks-append c (zero ∷ p) q = ap (λ l. 0 ∷ l) (ranks-append c p q)
-ranks-append c (suc m ∷ p) q = ap (λ l. suc c ∷ l) (ranks-append (suc c) p q ∙ ap (λ n. ranks (suc c) p ++ ranks n q) (let e : suc c + marked p ≡ c + suc (marked p) = omega arith in e))
+ranks-append c (suc m ∷ p) q = ap (λ l. suc c ∷ l) (ranks-append (suc c) p q
+    ∙ ap (λ n. ranks (suc c) p ++ ranks n q) (let e : suc c + marked p ≡ c + suc (marked p) =
+    omega arith in e))
 
 pub length-ranks : (c : ℕ) (ms : List ℕ) → length (ranks c ms) ≡ length ms
 length-ranks c [] = refl

@@ -1,10 +1,12 @@
 -- Lists that are read while a test holds: without the bound on their length, and as loops read them.
-use Rattle.std.proofs.Common.{◌≡◌, ℕ, zero, suc, ◌<◌, ◌≤◌, Bool, true, false, cond, ltb, List, [], ◌∷◌, ◌++◌, length, append_assoc, Option, Some, Ok, Err, refl, sym, ap, subst, ◌∙◌, arith}
+use Rattle.std.proofs.Common.{◌≡◌, ℕ, zero, suc, ◌<◌, ◌≤◌, Bool, true, false, cond, ltb, List, [], ◌∷◌, ◌++◌}
+use Rattle.std.proofs.Common.{length, append_assoc, Option, Some, Ok, Err, refl, sym, ap, subst, ◌∙◌, arith}
 use Rattle.std.specs.Prelude.{fold}
 use Rattle.std.proofs.lemmas.Bool.{ltb-true, lt-ltb}
 use Rattle.std.proofs.lemmas.List.{append-nil}
 use Rattle.grammar.specs.Fault.{Refusal}
-use Rattle.grammar.specs.Parser.{Unread, Parser, Parsed, Refuses, and_then, pure, turn, many_for, many, sees, refusal, refuse}
+use Rattle.grammar.specs.Parser.{Unread, Parser, Parsed, Refuses, and_then, pure, turn, many_for, many, sees}
+use Rattle.grammar.specs.Parser.{refusal, refuse}
 
 guard_same : {A : Type 0} (b : Bool) (x y e : A) → (b ≡ true → x ≡ y) → cond b x e ≡ cond b y e
 guard_same true x y e h = h refl
@@ -14,9 +16,9 @@ turn_same : {K A : Type 0} (more other : Parser K (List A)) (p : Parser K A) (i 
     → ((j : Unread K) → length j.rest < length i.rest → more j ≡ other j) → turn more p i ≡ turn other p i
 turn_same more other p i h =
     elim (p i) as (λ o. and_then o (λ x j. cond (ltb (length j.rest) (length i.rest))
-        (and_then (more j) (λ xs. pure (x ∷ xs))) (Err (refusal i)))
+    (and_then (more j) (λ xs. pure (x ∷ xs))) (Err (refusal i)))
     ≡ and_then o (λ x j. cond (ltb (length j.rest) (length i.rest)) (and_then (other j) (λ xs. pure (x ∷ xs)))
-        (Err (refusal i)))) [
+    (Err (refusal i)))) [
       | Ok q ↦ guard_same (ltb (length q.1.rest) (length i.rest)) _ _ _
           (λ lt. ap (λ o. and_then o (λ xs. pure (q.0 ∷ xs))) (h q.1 (ltb-true _ _ lt)))
       | Err e ↦ refl
@@ -105,7 +107,7 @@ module _ {K A : Type 0} (starts : K → Bool) (p : Parser K A) where
   pub list_fails : {E : Type 0} (seen : E → Option Refusal) (whole : Parsed K (List A)) (so_far : List A)
       (i new : Unread K) (f : E) → sees starts i ≡ true
       → ((r : Refusal) → seen f ≡ Some r → Refuses (p i) r new) → Rest whole so_far i → (r : Refusal)
-          → seen f ≡ Some r → Refuses whole r new
+      → seen f ≡ Some r → Refuses whole r new
   list_fails seen whole so_far i new f s e left r h = let item = e r h in record {
     refused = left ∙ ap (λ o. and_then o (λ xs. pure (so_far ++ xs)))
         (many_fails starts p i r s item.refused);
@@ -138,7 +140,7 @@ module _ {K A B : Type 0} (starts : K → Bool) (p : Parser K A) (step : B → A
   pub fold_fails : {E : Type 0} (seen : E → Option Refusal) (whole : Parsed K B) (so_far : B)
       (i new : Unread K) (f : E) → sees starts i ≡ true
       → ((r : Refusal) → seen f ≡ Some r → Refuses (p i) r new) → Left whole so_far i → (r : Refusal)
-          → seen f ≡ Some r → Refuses whole r new
+      → seen f ≡ Some r → Refuses whole r new
   fold_fails seen whole so_far i new f s e left r h = let item = e r h in record {
     refused = left ∙ ap (λ o. and_then o (λ xs. pure (fold step so_far xs)))
         (many_fails starts p i r s item.refused);

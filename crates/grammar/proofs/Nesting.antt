@@ -1,15 +1,18 @@
 -- Brackets: what begins with one that may be opened, and where none may.
-use Rattle.std.proofs.Common.{◌≡◌, ℕ, zero, suc, ◌+◌, ◌<◌, Bool, true, false, cond, List, [], ◌∷◌, ◌++◌, Option, Some, None, Ok, Err, refl, sym, ap, subst, ◌∙◌, arith}
+use Rattle.std.proofs.Common.{◌≡◌, ℕ, zero, suc, ◌+◌, ◌<◌, Bool, true, false, cond, List, [], ◌∷◌, ◌++◌}
+use Rattle.std.proofs.Common.{Option, Some, None, Ok, Err, refl, sym, ap, subst, ◌∙◌, arith}
 use Rattle.std.proofs.Math.Path.{fun_ext}
 use Rattle.std.specs.Prelude.{not, ◌&&◌, ◌||◌}
 use Rattle.grammar.specs.Tokens.{Tok, Alphabet, is, is_opening, kind_of, place_of, passes, never}
 use Rattle.grammar.specs.Fault.{Fault, Unexpected, EndOfText, Deep, Refusal}
 use Rattle.grammar.specs.Language as l
 use Rattle.grammar.specs.Language.{Lang}
-use Rattle.grammar.specs.Parser.{Unread, Parser, Parsed, ◌>>=◌, pure, and_then, take, closed, opened, too_deep, sees, kind, place, why}
+use Rattle.grammar.specs.Parser.{Unread, Parser, Parsed, ◌>>=◌, pure, and_then, take, closed, opened}
+use Rattle.grammar.specs.Parser.{too_deep, sees, kind, place, why}
 use Rattle.grammar.specs.Parser as parser
 use Rattle.grammar.proofs.KindSets.{both, is_kind, is_self, or_right, every, every_by}
-use Rattle.grammar.proofs.Bundle.{from, Firsts, Level, Fills, Completes, Stopped, Sound, Begins, Kept, Sample, Good}
+use Rattle.grammar.proofs.Bundle.{from, Firsts, Level, Fills, Completes, Stopped, Sound, Begins, Kept, Sample}
+use Rattle.grammar.proofs.Bundle.{Good}
 use Rattle.grammar.proofs.Sequences.{good_then, fit}
 use Rattle.grammar.proofs.OneToken.{stops_at, good_open}
 
@@ -40,8 +43,13 @@ module _ {K A : Type 0} (al : Alphabet K) (v : Level) (n : ℕ) (q : Parser K A)
     (w : Sample s) where
   goes_by : (c : ℕ) (f : Fault) (start : List (Tok K)) → Fills v c f w.2 → start ≡ []
       → Completes v s [] [] c f start
-  goes_by c f start fills e = record { answer = w.0; more = w.1; back = w.2;
-      spells = subst (λ z. s w.0 (z ++ w.1) w.2) (sym e) w.3; fills = fills }
+  goes_by c f start fills e = record {
+    answer = w.0;
+    more = w.1;
+    back = w.2;
+    spells = subst (λ z. s w.0 (z ++ w.1) w.2) (sym e) w.3;
+    fills = fills;
+  }
 
   pub refuses : (i : Unread K) (ts : List (Tok K)) → i.rest ≡ ts
       → ((r : List (Tok K)) → kind_of r ≡ kind_of ts → q (from i r)
@@ -70,8 +78,10 @@ module _ {K B : Type 0} (al : Alphabet K) (v : Level) (a : K) (t : ℕ → Lang 
   opening = l.◌>>=◌ (l.token a) t
 
   closed_as : (i : Unread K) (ts : List (Tok K)) (b : Bool) → i.rest ≡ ts → passes (is al a) (kind_of ts) ≡ b
-      → closed {A = B} al a i ≡ Err (record { place = place_of i.size ts;
-      fault = cond b Deep (why (kind_of ts)) })
+      → closed {A = B} al a i ≡ Err (record {
+        place = place_of i.size ts;
+        fault = cond b Deep (why (kind_of ts));
+      })
   unfolding too_deep sees kind place
   closed_as i ts b e h = rw (e, h) refl
 
@@ -102,8 +112,14 @@ module _ {K B : Type 0} (al : Alphabet K) (v : Level) (a : K) (t : ℕ → Lang 
       goes : (start : List (Tok K)) → start ≡ u ∷ [] → Completes v opening [] [] i.count Deep start
       goes start c =
           let w = opened_with rest u kind_it in
-          record { answer = w.0; more = w.1; back = w.2; spells =
-              subst (λ z. opening w.0 (z ++ w.1) w.2) (sym c) w.3; fills = tt }
+          record {
+            answer = w.0;
+            more = w.1;
+            back = w.2;
+            spells =
+                subst (λ z. opening w.0 (z ++ w.1) w.2) (sym c) w.3;
+            fills = tt;
+          }
 
   closed_sample : ((n : ℕ) → Sample (t n)) → Sample opening
   closed_sample rest = let u : Tok K = record { place = 0; kind = a; text = []; value = 0 } in
@@ -146,8 +162,12 @@ good_closed {al = al} {x} {v} {m} a t is_open lt rest = record {
 good_before_any : {K A : Type 0} {al : Alphabet K} {x : ℕ} {v : Level} {n m : ℕ} {p : Parser K A}
     {s : Lang K A} {empty : Bool} {first : K → Bool} (cont : K → Bool) → Good al x v n m p s empty first never
     → Good al x v n m p s empty first cont
-good_before_any cont g = record { sound = g.sound; sample = g.sample; begins = g.begins;
-    kept = λ i a u r ms e y c. g.kept i a u r ms e y (never_passes (kind_of r)) }
+good_before_any cont g = record {
+  sound = g.sound;
+  sample = g.sample;
+  begins = g.begins;
+  kept = λ i a u r ms e y c. g.kept i a u r ms e y (never_passes (kind_of r));
+}
   where
     never_passes : {K : Type 0} (o : Option K) → passes never o ≡ false
     never_passes None = refl
@@ -179,15 +199,15 @@ taken_first al a n rest = fun_ext (λ i. taken_by n rest (take al a i))
 pub good_opened : {K B : Type 0} {al : Alphabet K} {v : Level} {empty : Bool} {first cont : K → Bool}
     (n x : ℕ) (a : K) (rest : ℕ → ℕ → Parser K B) (t : ℕ → ℕ → Lang K B) → is_opening al a ≡ true
     → ((k : ℕ) → n ≡ suc k → (place : ℕ) → Good al x v k (suc k) (rest k place)
-        (t (deeper k x) place) empty first cont) → ((k : ℕ) (place : ℕ) → Sample (t k place))
+    (t (deeper k x) place) empty first cont) → ((k : ℕ) (place : ℕ) → Sample (t k place))
     → Good al x v n n (opened al n a rest) (l.opened (deeper n x) a t) false (is al a) cont
 unfolding opened parser.opening
 good_opened {al = al} {cont = cont} zero zero a rest t is_open inner texts =
     good_nothing (closed al a) (λ i. (too_deep al a i, refl))
 good_opened {al = al} {cont = cont} zero (suc x) a rest t is_open inner texts =
     good_before_any cont (good_closed {al = al} a (t x) is_open (let lt : 0 < suc x = omega arith in lt)
-        (texts x))
+    (texts x))
 good_opened {K} {B} {al} {v} {empty} {first} {cont} (suc n) x a rest t is_open inner texts =
     subst (λ p. Good al x v (suc n) (suc n) p (l.opened (deeper (suc n) x) a t) false (is al a) cont)
-        (sym (taken_first al a n rest))
+    (sym (taken_first al a n rest))
     (good_then (good_open a is_open) (λ place. inner n refl place) (fit_never al empty first cont))

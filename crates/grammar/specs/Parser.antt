@@ -1,9 +1,12 @@
--- Reading by recursive descent: a reader takes tokens off the front of its input, or refuses it. This project's own.
-use Rattle.std.specs.Prelude.{◌≡◌, ℕ, zero, suc, ◌+◌, Bool, if◌then◌else◌, nat_lt, is_none, List, [], ◌∷◌, length, Option, Some, None, Result, Ok, Err}
+-- Reading by recursive descent: a reader takes tokens off the front of its input, or refuses it. This
+-- project's own.
+use Rattle.std.specs.Prelude.{◌≡◌, ℕ, zero, suc, ◌+◌, Bool, if◌then◌else◌, nat_lt, is_none, List, [], ◌∷◌}
+use Rattle.std.specs.Prelude.{length, Option, Some, None, Result, Ok, Err}
 use Rattle.grammar.specs.Tokens.{Tok, Alphabet, is, kind_of, place_of, passes, in_range}
 use Rattle.grammar.specs.Fault.{Fault, Unexpected, EndOfText, Deep, Large, Refusal}
 
--- What is still to be read, how many leaves and operators of the outermost expression were read, and the size of the whole text.
+-- What is still to be read, how many leaves and operators of the outermost expression were read, and the
+-- size of the whole text.
 pub record Unread (K : Type 0) : Type 0 where
   pub rest : List (Tok K)
   pub count : ℕ
@@ -104,13 +107,16 @@ take al a = λ i. if sees (is al a) i then Ok (place i, next i) else refuse i
 unfoldable pub name : {K : Type 0} → (K → Bool) → Parser K (ℕ × List ℕ)
 name test = λ i. if sees test i then Ok ((place i, text i), next i) else refuse i
 
--- a token whose value is in a range. Any other value is refused as this fault: as OutOfRange of the same range, or as Unexpected
+-- a token whose value is in a range. Any other value is refused as this fault: as OutOfRange of the same
+-- range, or as Unexpected
 unfoldable pub ranged : {K A : Type 0} → (K → Bool) → ℕ → ℕ → Fault → (ℕ → List ℕ → ℕ → A) → Parser K A
-ranged test least most f make = λ i. if sees test i then (if in_range least most (value i) then Ok (make (place i) (text i) (value i), next i) else fail f i) else refuse i
+ranged test least most f make = λ i. if sees test i then (if in_range least most (value i) then Ok
+    (make (place i) (text i) (value i), next i) else fail f i) else refuse i
 
 -- what is read is a leaf or an operator, if one more may be
 unfoldable pub counted : {K A : Type 0} → Alphabet K → Parser K A → Parser K A
-counted al p = λ i. and_then (p i) (λ a j. if nat_lt j.count al.most_counted then Ok (a, record j { count = j.count + 1 }) else fail Large i)
+counted al p = λ i. and_then (p i) (λ a j. if nat_lt j.count al.most_counted then Ok
+    (a, record j { count = j.count + 1 }) else fail Large i)
 
 -- a token of this kind, which is a leaf or an operator
 unfoldable pub counted_token : {K : Type 0} → Alphabet K → K → Parser K ℕ
@@ -162,7 +168,8 @@ outer p = λ i. p (record i { count = 0 })
 
 -- one more item, and those behind it
 abbrev pub turn : {K A : Type 0} → Parser K (List A) → Parser K A → Parser K (List A)
-turn more p i = and_then (p i) (λ x j. if nat_lt (length j.rest) (length i.rest) then and_then (more j) (λ xs. pure (x ∷ xs)) else Err (refusal i))
+turn more p i = and_then (p i) (λ x j. if nat_lt (length j.rest) (length i.rest) then and_then (more j)
+    (λ xs. pure (x ∷ xs)) else Err (refusal i))
 
 unfoldable pub many_for : {K A : Type 0} → ℕ → (K → Bool) → Parser K A → Parser K (List A)
 many_for zero starts p i = if sees starts i then turn refuse p i else Ok ([], i)
@@ -178,7 +185,8 @@ pub record Refuses {K A : Type 0} (outcome : Parsed K A) (r : Refusal) (new : Un
   pub refused : outcome ≡ Err r
   pub stands : place new ≡ r.place
 
--- The result is the outcome, unless memory runs out. `seen` tells what refusal an error is, None for want of memory.
+-- The result is the outcome, unless memory runs out. `seen` tells what refusal an error is, None for want of
+-- memory.
 abbrev pub Reads : {K A E : Type 0} → (E → Option Refusal) → Parsed K A → Result A E → Unread K → Type 0
 Reads seen outcome (Ok a) new = outcome ≡ Ok (a, new)
 Reads seen outcome (Err e) new = (r : Refusal) → seen e ≡ Some r → Refuses outcome r new

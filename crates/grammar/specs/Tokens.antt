@@ -1,5 +1,6 @@
 -- Tokens, and what a grammar knows of their kinds. This project's own.
-use Rattle.std.specs.Prelude.{◌≡◌, ℕ, zero, suc, ◌==◌, nat_le, Bool, true, false, not, ◌&&◌, if◌then◌else◌, List, [], ◌∷◌, Option, Some, None}
+use Rattle.std.specs.Prelude.{◌≡◌, ℕ, zero, suc, ◌==◌, nat_le, Bool, true, false, not, ◌&&◌, if◌then◌else◌}
+use Rattle.std.specs.Prelude.{List, [], ◌∷◌, Option, Some, None}
 
 -- A token of a kind of K: where it begins, what is written there, and its value where it is a number.
 pub record Tok (K : Type 0) : Type 0 where
@@ -14,8 +15,9 @@ nth [] n = None
 nth (x ∷ xs) zero = Some x
 nth (x ∷ xs) (suc n) = nth xs n
 
--- The kinds of tokens: a number for each, by which they are told apart, and the list of all in the order of these numbers; which are brackets; how many
--- brackets may be open at once, and how many leaves and operators an outermost expression may have.
+-- The kinds of tokens: a number for each, by which they are told apart, and the list of all in the order of
+-- these numbers; which are brackets; how many brackets may be open at once, and how many leaves and
+-- operators an outermost expression may have.
 pub record Alphabet (K : Type 0) : Type 0 where
   pub class : K → ℕ
   pub kinds : List K

@@ -46,7 +46,8 @@ struct Lexemes<'a> {
 impl<'a> Tokens for Lexemes<'a> {
     type Kind = bool;
 
-    ghost left = { λ s. map (λ t. record { place = t.place; kind = t.kind; text = []; value = t.value }) s.rest.now };
+    ghost left = { λ s. map (λ t. record { place = t.place; kind = t.kind; text = []; value = t.value })
+        s.rest.now };
 
     fn kind(&self) -> Option<bool> {
         match self.rest {
@@ -97,13 +98,11 @@ fn steps(rt: HostRuntime) -> Result<(), Fail> {
     cursor.skip();
     assert_eq!(rt; cursor.place(), 9);
     assert_eq!(rt; cursor.value(), 0);
-    assert_eq!(rt; cursor.counted_token(WORD), Err(refused(9, Fault::EndOfText)));
+    assert_eq!(rt;
+        cursor.counted_token(WORD),
+        Err(refused(9, Fault::EndOfText))
+    );
     assert_eq!(rt; cursor.finish(), Ok(()));
-    Ok(())
-}
-
-#[test]
-fn counts(rt: HostRuntime) -> Result<(), Fail> {
     let tokens = [
         token(0, WORD, 0),
         token(2, WORD, 0),
@@ -117,13 +116,6 @@ fn counts(rt: HostRuntime) -> Result<(), Fail> {
     assert_eq!(rt; cursor.counted_token(WORD), Err(refused(4, Fault::Large)));
     cursor.restart();
     assert_eq!(rt; cursor.counted_token(WORD), Ok(4));
-    Ok(())
-}
-
-#[test]
-fn printed(rt: HostRuntime) -> Result<(), Fail> {
-    let printed = format!(in rt.alloc(); "{}", refused(4, Fault::Large))?;
-    assert_eq!(rt; printed.as_str(), "too large an expression");
     Ok(())
 }
 

@@ -1,5 +1,6 @@
 -- Each keyword is written in one way, and no other word is one.
-use Rattle.std.proofs.Common.{◌≡◌, ◌≤◌, length, arith, ℕ, Bool, true, false, List, [], ◌∷◌, Option, Some, None, refl, sym, ap, ◌∙◌}
+use Rattle.std.proofs.Common.{◌≡◌, ◌≤◌, length, arith, ℕ, Bool, true, false, List, [], ◌∷◌, Option, Some}
+use Rattle.std.proofs.Common.{None, refl, sym, ap, ◌∙◌}
 use Rattle.std.specs.Prelude.{if◌then◌else◌, is_some}
 use Rattle.std.specs.Str.{bytes_eq}
 use Rattle.std.proofs.lemmas.Slice.Eq.{bytes_eq-Decides}
@@ -16,11 +17,14 @@ keyword_spelled _ = refl
 pub keyword_found : (w : List ℕ) (k : Keyword) → w ≡ keyword_text k → keyword_of w ≡ Some k
 keyword_found w k e = ap keyword_of e ∙ keyword_spelled k
 
-among_spelled : (ks : List Keyword) (w : List ℕ) (k : Keyword) → keyword_among ks w ≡ Some k → w ≡ keyword_text k
+among_spelled : (ks : List Keyword) (w : List ℕ) (k : Keyword) → keyword_among ks w ≡ Some k
+    → w ≡ keyword_text k
 among_spelled [] w k e = cc
 among_spelled (x ∷ xs) w k e =
-    elim (bytes_eq w (keyword_text x)) as (λ t. bytes_eq w (keyword_text x) ≡ t → (if t then Some x else keyword_among xs w) ≡ Some k → w ≡ keyword_text k)
-    [ true ↦ λ d h. (bytes_eq-Decides w (keyword_text x)).0 d ∙ ap keyword_text (same h) | false ↦ λ d h. among_spelled xs w k h ] refl e
+    elim (bytes_eq w (keyword_text x)) as (λ t. bytes_eq w (keyword_text x) ≡ t
+        → (if t then Some x else keyword_among xs w) ≡ Some k → w ≡ keyword_text k)
+    [ true ↦ λ d h. (bytes_eq-Decides w (keyword_text x)).0 d ∙ ap keyword_text (same h) | false ↦
+        λ d h. among_spelled xs w k h ] refl e
   where
     same : Some x ≡ Some k → x ≡ k
     same h = cc

@@ -77,8 +77,8 @@ fn after_backslash(text: &[u8]) -> Option<(u8, &[u8])>
     Some((byte, rest))
 }
 
-/// Between quotes: the first byte of the text value, and what follows what is written for it. None at a quote, at a
-/// character below U+0020, and at a backslash that begins no escape.
+/// Between quotes: the first byte of the text value, and what follows what is written for it. None at a quote,
+/// at a character below U+0020, and at a backslash that begins no escape.
 pub fn next_byte(text: &[u8]) -> Option<(u8, &[u8])>
     ensures next { option_map (λ p. (p.0, p.1.now)) result ≡ next_byte text.now }
     ensures shorter { IfSome result (λ p. length p.1.now < length text.now) }

@@ -1,5 +1,6 @@
 -- What stands at the front of a text, by its first byte or character.
-use Rattle.std.proofs.Common.{◌≡◌, ℕ, suc, ◌<◌, ◌≤◌, true, false, List, [], ◌∷◌, length, refl, sym, ap, ◌∙◌, ⊎_elim, arith}
+use Rattle.std.proofs.Common.{◌≡◌, ℕ, suc, ◌<◌, ◌≤◌, true, false, List, [], ◌∷◌, length, refl, sym, ap, ◌∙◌}
+use Rattle.std.proofs.Common.{⊎_elim, arith}
 use Rattle.std.specs.Prelude.{◌==◌, ◌||◌, nat_lt}
 use Rattle.std.specs.Char.{is_ascii_digit, is_ascii_alphabetic}
 use Rattle.std.specs.Str.{chars}
@@ -8,7 +9,8 @@ use Rattle.std.proofs.lemmas.Bool.Decides.{nat_tests}
 use Rattle.unicode_ident.proofs.IdentLemmas.{is_xid_start-ascii}
 use Rattle.hh_base.specs.Name.{starts_word}
 use Rattle.module_token.specs.Gap.{is_blank}
-use Rattle.module_token.specs.Front.{front_of, front_by, sign_front, pair_front, word_front, number_front, quoted_front}
+use Rattle.module_token.specs.Front.{front_of, front_by, sign_front, pair_front, word_front, number_front}
+use Rattle.module_token.specs.Front.{quoted_front}
 use Rattle.module_token.proofs.Marks.{Sign}
 use Rattle.module_token.specs.declared.front.Front.TheVariants as front
 
@@ -60,10 +62,20 @@ pub record Begins (c : ℕ) : Type 0 where
   pub quote : (c == 34) ≡ false
 
 begins_low : (c : ℕ) → (is_ascii_alphabetic c || (c == 95)) ≡ true → Begins c
-begins_low c h = record { blank = grind (arith, nat_tests); digit = grind (arith, nat_tests); quote = grind (arith, nat_tests) }
+begins_low c h = record {
+  blank = grind (arith, nat_tests);
+  digit = grind (arith, nat_tests);
+  quote =
+      grind (arith, nat_tests);
+}
 
 begins_high : (c : ℕ) → 128 ≤ c → Begins c
-begins_high c h = record { blank = grind (arith, nat_tests); digit = grind (arith, nat_tests); quote = grind (arith, nat_tests) }
+begins_high c h = record {
+  blank = grind (arith, nat_tests);
+  digit = grind (arith, nat_tests);
+  quote =
+      grind (arith, nat_tests);
+}
 
 pub begins : (c : ℕ) → starts_word c ≡ true → Begins c
 begins c h = ⊎_elim (λ small. begins_low c (sym (starts_ascii c small) ∙ h)) (begins_high c) (cases_lt c 128)

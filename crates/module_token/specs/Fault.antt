@@ -28,19 +28,27 @@ pub record BeginsNothing (text : List ℕ) : Type 0 where
   pub no_word : starts_word first ≡ false
   pub no_mark : (mark : Punct) (more : List ℕ) → text ≢ punct_text mark ++ more
 
--- no closing quote can follow: the text ends, or a control character stands first, or a backslash that is the last byte
+-- no closing quote can follow: the text ends, or a control character stands first, or a backslash that is
+-- the last byte
 abbrev pub IsOpen : List ℕ → Type 0
 IsOpen [] = Unit {0}
 IsOpen (b ∷ bs) = (b < space) ⊎ ((b ≡ backslash) × (bs ≡ []))
 
 abbrev pub IsFault : TokenFaultKind → List ℕ → ℕ → Type 0
 IsFault fault.BadChar text n = (n ≡ 0) × BeginsNothing text
-IsFault fault.NameLong text n = (n ≡ 0) × (word : List ℕ) × (rest : List ℕ) × (text ≡ word ++ rest) × IsLongestWord word rest × (NAME_LIMIT < length word)
+IsFault fault.NameLong text n = (n ≡ 0) × (word : List ℕ) × (rest : List ℕ) × (text ≡ word ++ rest)
+    × IsLongestWord word rest × (NAME_LIMIT < length word)
 IsFault fault.NumberLarge text n =
-    (n ≡ 0) × (digits : List ℕ) × (rest : List ℕ) × (value : ℕ) × (text ≡ digits ++ rest) × IsLongestNumber digits rest value × (NUMBER_LIMIT < value)
-IsFault fault.TextLong text n = (n ≡ 0) × (value : List ℕ) × (rest : List ℕ) × (text ≡ quoted value ++ rest) × (has_text_bytes value ≡ true) × (TEXT_LIMIT < length value)
-IsFault fault.TextOpen text n = (n ≡ 0) × (value : List ℕ) × (rest : List ℕ) × (text ≡ quote ∷ (flat_map escaped value ++ rest)) × (has_text_bytes value ≡ true) × IsOpen rest
+    (n ≡ 0) × (digits : List ℕ) × (rest : List ℕ) × (value : ℕ) × (text ≡ digits ++ rest)
+    × IsLongestNumber digits rest value × (NUMBER_LIMIT < value)
+IsFault fault.TextLong text n = (n ≡ 0) × (value : List ℕ) × (rest : List ℕ)
+    × (text ≡ quoted value ++ rest) × (has_text_bytes value ≡ true) × (TEXT_LIMIT < length value)
+IsFault fault.TextOpen text n = (n ≡ 0) × (value : List ℕ) × (rest : List ℕ)
+    × (text ≡ quote ∷ (flat_map escaped value ++ rest)) × (has_text_bytes value ≡ true) × IsOpen rest
 IsFault fault.BadEscape text n =
-    (value : List ℕ) × (mark : ℕ) × (rest : List ℕ) × (text ≡ quote ∷ (flat_map escaped value ++ backslash ∷ mark ∷ rest)) × (has_text_bytes value ≡ true) × (escape_of mark ≡ None)
+    (value : List ℕ) × (mark : ℕ) × (rest : List ℕ)
+    × (text ≡ quote ∷ (flat_map escaped value ++ backslash ∷ mark ∷ rest))
+    × (has_text_bytes value ≡ true) × (escape_of mark ≡ None)
     × (n ≡ length (quote ∷ flat_map escaped value))
-IsFault fault.CommentOpen text n = (n ≡ 0) × (body : List ℕ) × (text ≡ codes "/*" ++ body) × (has_close body ≡ false)
+IsFault fault.CommentOpen text n = (n ≡ 0) × (body : List ℕ) × (text ≡ codes "/*" ++ body)
+    × (has_close body ≡ false)

@@ -1,6 +1,7 @@
--- A bridge, and no part of a promise: what stands at the front of a text, as a function of its bytes. The tokens of a
--- text are defined without it, and a law says that the two agree.
-use Rattle.std.specs.Prelude.{ℕ, ◌+◌, ◌-◌, ◌==◌, ◌&&◌, List, [], ◌∷◌, Option, Some, None, option_map, length, take, drop, nat_le, nat_lt, codes, slice_index, if◌then◌else◌, zero, suc}
+-- A bridge, and no part of a promise: what stands at the front of a text, as a function of its bytes. The
+-- tokens of a text are defined without it, and a law says that the two agree.
+use Rattle.std.specs.Prelude.{ℕ, ◌+◌, ◌-◌, ◌==◌, ◌&&◌, List, [], ◌∷◌, Option, Some, None, option_map, length}
+use Rattle.std.specs.Prelude.{take, drop, nat_le, nat_lt, codes, slice_index, if◌then◌else◌, zero, suc}
 use Rattle.std.specs.List.{prefix_len, position_or_len}
 use Rattle.std.specs.Char.{len_utf8, is_ascii_digit}
 use Rattle.std.specs.Str.{chars}
@@ -77,7 +78,8 @@ comment_found None = front.Wrong 0 fault.CommentOpen
 
 abbrev pub pair_front : ℕ → ℕ → List ℕ → Front
 pair_front b d text =
-    if (b == byte (codes "/")) && (d == byte (codes "/")) then front.Gap (position_or_len (λ c. c == line_feed) text)
+    if (b == byte (codes "/")) && (d == byte (codes "/")) then front.Gap
+    (position_or_len (λ c. c == line_feed) text)
     else if (b == byte (codes "/")) && (d == byte (codes "*")) then comment_found (close_of (drop 2 text))
     else long_found b (long_mark b d)
 
@@ -98,7 +100,8 @@ word_found (Some keyword) = token.Keyword keyword
 word_found None = token.Word
 
 abbrev pub word_cut : ℕ → List ℕ → Front
-word_cut n text = if nat_le n NAME_LIMIT then front.Lexeme n (word_found (keyword_of (take n text))) else front.Wrong 0 fault.NameLong
+word_cut n text = if nat_le n NAME_LIMIT then front.Lexeme n (word_found (keyword_of (take n text)))
+    else front.Wrong 0 fault.NameLong
 
 abbrev pub word_front : List ℕ → Front
 word_front text = word_cut (word_len (chars text)) text
@@ -106,10 +109,12 @@ word_front text = word_cut (word_len (chars text)) text
 -- ---- numbers
 
 abbrev pub number_cut : ℕ → ℕ → Front
-number_cut n value = if nat_le value NUMBER_LIMIT then front.Lexeme n (token.Number value) else front.Wrong 0 fault.NumberLarge
+number_cut n value = if nat_le value NUMBER_LIMIT then front.Lexeme n (token.Number value) else front.Wrong
+    0 fault.NumberLarge
 
 abbrev pub number_front : List ℕ → Front
-number_front text = number_cut (prefix_len is_ascii_digit text) (digits_value 10 (take (prefix_len is_ascii_digit text) text))
+number_front text = number_cut (prefix_len is_ascii_digit text)
+    (digits_value 10 (take (prefix_len is_ascii_digit text) text))
 
 -- ---- quoted texts
 
@@ -132,7 +137,8 @@ run_for (suc n) bs = run_on (run_for n) bs (next_byte bs)
 abbrev pub quote_end : ℕ → ℕ → List ℕ → Front
 quote_end before n [] = front.Wrong 0 fault.TextOpen
 quote_end before n (b ∷ rest) =
-    if b == quote then (if nat_le n TEXT_LIMIT then front.Lexeme (before + 1) token.Quoted else front.Wrong 0 fault.TextLong)
+    if b == quote then (if nat_le n TEXT_LIMIT then front.Lexeme (before + 1) token.Quoted else front.Wrong
+    0 fault.TextLong)
     else if (b == backslash) && nat_lt 0 (length rest) then front.Wrong before fault.BadEscape
     else front.Wrong 0 fault.TextOpen
 

@@ -1,4 +1,5 @@
--- Which bytes spell which token, before what follows. This project's own, after HipHop.js; words are those of Unicode Standard Annex 31.
+-- Which bytes spell which token, before what follows. This project's own, after HipHop.js; words are those
+-- of Unicode Standard Annex 31.
 use Rattle.std.specs.Prelude.{◌≡◌, ℕ, ◌≤◌, Bool, true, false, List, [], ◌∷◌, ◌++◌, length}
 use Rattle.std.specs.Char.{is_ascii_digit}
 use Rattle.std.specs.Str.{chars, is_utf8}
@@ -38,12 +39,14 @@ pub record IsLongestNumber (digits rest : List ℕ) (value : ℕ) : Type 0 where
 -- a mark, where no longer mark and no comment begins
 pub record IsLongestMark (text rest : List ℕ) (mark : Punct) : Type 0 where
   pub spelled : text ≡ punct_text mark
-  pub longest : (other : Punct) (more : List ℕ) → text ++ rest ≡ punct_text other ++ more → length (punct_text other) ≤ length text
+  pub longest : (other : Punct) (more : List ℕ) → text ++ rest ≡ punct_text other ++ more
+      → length (punct_text other) ≤ length text
   pub no_comment : begins_comment (text ++ rest) ≡ false
 
 -- the bytes spell the token, and what follows does not make it longer
 abbrev pub IsToken : List ℕ → TokenKind → List ℕ → Type 0
-IsToken text token.Word rest = IsLongestWord text rest × (length text ≤ NAME_LIMIT) × (is_keyword text ≡ false)
+IsToken text token.Word rest = IsLongestWord text rest × (length text ≤ NAME_LIMIT)
+    × (is_keyword text ≡ false)
 IsToken text (token.Keyword keyword) rest = IsLongestWord text rest × (text ≡ keyword_text keyword)
 IsToken text (token.Number value) rest = IsLongestNumber text rest value × (value ≤ NUMBER_LIMIT)
 IsToken text token.Quoted rest = (value : List ℕ) × IsText value × (text ≡ quoted value)

@@ -19,9 +19,14 @@ fault_at place kind = record { pos = record { 0 = place }; kind = kind }
 -- what is read of a text that stands behind so many bytes: its tokens up to its end, or up to a fault
 pub data Tokenizes : ℕ → List ℕ → List TextToken → Option TokenFault → Type 0 where
   ended : {place : ℕ} → Tokenizes place [] [] None
-  refused : {place : ℕ} {text : List ℕ} (n : ℕ) (kind : TokenFaultKind) → IsFault kind text n → Tokenizes place text [] (Some (fault_at (place + n) kind))
-  passed : {place : ℕ} (gap rest : List ℕ) {tokens : List TextToken} {end : Option TokenFault} → IsGap gap rest → Tokenizes (place + length gap) rest tokens end → Tokenizes place (gap ++ rest) tokens end
-  taken : {place : ℕ} (text rest : List ℕ) (what : TokenKind) {tokens : List TextToken} {end : Option TokenFault} → IsToken text what rest → Tokenizes (place + length text) rest tokens end → Tokenizes place (text ++ rest) (record { place = place; what = what; text = text } ∷ tokens) end
+  refused : {place : ℕ} {text : List ℕ} (n : ℕ) (kind : TokenFaultKind) → IsFault kind text n
+      → Tokenizes place text [] (Some (fault_at (place + n) kind))
+  passed : {place : ℕ} (gap rest : List ℕ) {tokens : List TextToken} {end : Option TokenFault}
+      → IsGap gap rest → Tokenizes (place + length gap) rest tokens end
+      → Tokenizes place (gap ++ rest) tokens end
+  taken : {place : ℕ} (text rest : List ℕ) (what : TokenKind) {tokens : List TextToken}
+      {end : Option TokenFault} → IsToken text what rest → Tokenizes (place + length text) rest tokens end
+      → Tokenizes place (text ++ rest) (record { place = place; what = what; text = text } ∷ tokens) end
 
 abbrev pub HasTokens : List ℕ → List TextToken → Type 0
 HasTokens text tokens = Tokenizes 0 text tokens None

@@ -7,7 +7,8 @@ use std::alloc::{AllocError, AllocFailed};
 use std::fmt;
 use thiserror::Error;
 
-/// What is wrong at the first place of a text that has neither a gap nor a token. At most one of these is wrong there,
+/// What is wrong at the first place of a text that has neither a gap nor a token. At most one of these is
+/// wrong there,
 /// so they have no order among themselves.
 #[derive(Clone, Copy, PartialEq, Eq, Debug)]
 pub enum TokenFaultKind {
@@ -53,7 +54,8 @@ impl fmt::Display for TokenFaultKind {
     }
 }
 
-/// The first fault of a text's tokens, and its place: that of the quote, word, number, comment or character that it is
+/// The first fault of a text's tokens, and its place: that of the quote, word, number, comment or character
+/// that it is
 /// about, but for `BadEscape`.
 #[derive(Clone, Copy, PartialEq, Eq, Debug, Error)]
 #[error("{kind}")]

@@ -18,7 +18,10 @@ fn quote_end(before: usize, len: usize, rest: &[u8]) -> Front
     match rest.split_first() {
         Some((b'"', _)) if len <= TEXT_LIMIT => Front::Lexeme(before + 1, TokenKind::Quoted),
         Some((b'"', _)) => Front::Wrong(0, TokenFaultKind::TextLong),
-        Some((b'\\', others)) if !others.is_empty() => Front::Wrong(before, TokenFaultKind::BadEscape),
+        Some((b'\\', others)) if !others.is_empty() => Front::Wrong(
+            before,
+            TokenFaultKind::BadEscape,
+        ),
         _ => Front::Wrong(0, TokenFaultKind::TextOpen),
     }
 }

@@ -5,7 +5,8 @@ ghost use Rattle.std.specs.Str.{IsCharBoundary};
 ghost use Rattle.hh_base.specs.Bytes.{line_feed};
 ghost use Rattle.module_token.specs.Bytes.{byte};
 ghost use Rattle.module_token.specs.Cut.{CutsAt};
-ghost use Rattle.module_token.specs.Front.{close_of, comment_found, long_mark, pair_front, short_found, short_mark, sign_front};
+ghost use Rattle.module_token.specs.Front.{close_of, comment_found, long_mark, pair_front, short_found};
+ghost use Rattle.module_token.specs.Front.{short_mark, sign_front};
 
 use crate::fault::TokenFaultKind;
 use crate::front::Front;

@@ -55,8 +55,14 @@ const ONES: [(&str, TokenKind); 46] = [
     ("false", TokenKind::Keyword(Keyword::False)),
     ("0", TokenKind::Number(0)),
     ("007", TokenKind::Number(7)),
-    ("9223372036854775807", TokenKind::Number(9_223_372_036_854_775_807)),
-    ("00000009223372036854775808", TokenKind::Number(9_223_372_036_854_775_808)),
+    (
+        "9223372036854775807",
+        TokenKind::Number(9_223_372_036_854_775_807),
+    ),
+    (
+        "00000009223372036854775808",
+        TokenKind::Number(9_223_372_036_854_775_808),
+    ),
     ("\"\"", TokenKind::Quoted),
     ("\"tea\"", TokenKind::Quoted),
     ("\"\\\"\\\\\\n\\t\"", TokenKind::Quoted),
@@ -230,7 +236,13 @@ fn has_value(alloc: Global, text: &str, value: &str) -> Result<bool, Fail> {
 }
 
 /// A front, a piece so many times, and a back.
-fn repeated(alloc: Global, front: &str, piece: &str, count: u32, back: &str) -> Result<String, Fail> {
+fn repeated(
+    alloc: Global,
+    front: &str,
+    piece: &str,
+    count: u32,
+    back: &str,
+) -> Result<String, Fail> {
     let mut text = String::from_str(alloc, front)?;
     for _ in 0..count {
         text.push_str(piece)?;

@@ -1,7 +1,7 @@
 //! Tokens as places in a text.
 
-use hh_base::keyword::Keyword;
 use crate::punct::Punct;
+use hh_base::keyword::Keyword;
 
 /// What a token is. A number has its value. What a quoted text stands for is read by `unquote`.
 #[derive(Clone, Copy, PartialEq, Eq, Debug)]

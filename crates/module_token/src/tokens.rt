@@ -1,5 +1,6 @@
 //! The tokens of a text.
-ghost use Rattle.std.specs.Prelude.{◌≡◌, ◌<◌, ◌^◌, ◌⊎◌, ℕ, List, All, length, slice_range, IfOk, IsErrOf, MatchResult};
+ghost use Rattle.std.specs.Prelude.{◌≡◌, ◌<◌, ◌^◌, ◌⊎◌, ℕ, List, All, length, slice_range, IfOk, IsErrOf};
+ghost use Rattle.std.specs.Prelude.{MatchResult};
 ghost use Rattle.hh_base.specs.Literal.{quoted};
 ghost use Rattle.hh_base.specs.Text.{IsText};
 ghost use Rattle.hh_base.specs.declared.value.Value.TheVariants as value_kind;
@@ -41,7 +42,8 @@ pub fn unquote(alloc: Global, text: &str, token: Token) -> Result<Text, NoMemory
     requires in_text { InText text.now token }
     requires quoted { token.what ≡ token_kind.Quoted }
     ensures value { IfOk result (λ t. t ≡ quoted_value (slice_range text.now token.start token.«end»)) }
-    ensures spelled { IfOk result (λ t. IsText t × (slice_range text.now token.start token.«end» ≡ quoted t)) }
+    ensures spelled { IfOk result (λ t. IsText t × (slice_range text.now token.start token.«end» ≡ quoted
+        t)) }
 {
     match read_literal(alloc, token_text(text, token)) {
         Ok(value) => Ok(into_text(value)),

@@ -1,5 +1,6 @@
 -- What the tree of a text keeps whose names are resolved. This project's own.
-use Rattle.std.specs.Prelude.{◌≡◌, ℕ, ◌+◌, ◌==◌, ◌&&◌, ◌||◌, Bool, true, false, not, Option, Some, None, is_some, List, [], ◌∷◌, ◌++◌, map, slice_get, nat_le}
+use Rattle.std.specs.Prelude.{◌≡◌, ℕ, ◌+◌, ◌==◌, ◌&&◌, ◌||◌, Bool, true, false, not, Option, Some, None}
+use Rattle.std.specs.Prelude.{is_some, List, [], ◌∷◌, ◌++◌, map, slice_get, nat_le}
 use Rattle.std.specs.List.{flat_map, list_all, list_any}
 use Rattle.std.specs.Str.{bytes_eq}
 use Rattle.hh_base.specs.Value.{kind_of, is_valued, is_interface}
@@ -25,10 +26,12 @@ use Rattle.module_tree.specs.declared.source.ModuleNode.{ModuleNode}
 use Rattle.module_tree.specs.declared.source.Part.{Part}
 use Rattle.module_tree.specs.declared.source.Part.TheVariants as top
 use Rattle.module_tree.specs.Scopes.{Signal, InScope, signal_at, trap_at}
-use Rattle.module_tree.specs.Parts.{StatementPart, Test, Times, Emission, Locals, Exit, Call, Start, Placed, parts_of, expressions_of, signals_named, parameters_named}
+use Rattle.module_tree.specs.Parts.{StatementPart, Test, Times, Emission, Locals, Exit, Call, Start, Placed}
+use Rattle.module_tree.specs.Parts.{parts_of, expressions_of, signals_named, parameters_named}
 use Rattle.module_tree.specs.Callables.{Signature, modules_of, signatures_of, interfaces_of}
 
--- ---- what the parts are judged against: the interfaces of all modules, the signatures of all bodies and hosts, and the
+-- ---- what the parts are judged against: the interfaces of all modules, the signatures of all bodies and
+-- hosts, and the
 -- kinds of the signals of the part's own module, all by their places
 
 pub record Known : Type 0 where
@@ -42,14 +45,17 @@ locals_of _ = []
 
 -- the signals of a module by their places: its interface, and then its local ones in the order of the text
 abbrev pub sigs_of : {R : Type 0} → ModuleNode R → List SignalNode
-sigs_of {R} m = map (λ (d : InterfaceNode). d.signal) m.interface ++ flat_map (λ (p : Placed R). locals_of p.part) (parts_of m)
+sigs_of {R} m = map (λ (d : InterfaceNode). d.signal) m.interface
+    ++ flat_map (λ (p : Placed R). locals_of p.part) (parts_of m)
 
 abbrev pub known_in : {R : Type 0} → List (Part R) → ModuleNode R → Known
-known_in parts m = record { interfaces = interfaces_of parts; signatures = signatures_of parts; kinds = map (λ (s : SignalNode). s.kind) (sigs_of m) }
+known_in parts m = record { interfaces = interfaces_of parts; signatures = signatures_of parts; kinds =
+    map (λ (s : SignalNode). s.kind) (sigs_of m) }
 
 -- what holds of each part of each module
 abbrev pub in_each_part : (Known → Placed ℕ → Bool) → List (Part ℕ) → Bool
-in_each_part test parts = list_all (λ (m : ModuleNode ℕ). list_all (test (known_in parts m)) (parts_of m)) (modules_of parts)
+in_each_part test parts = list_all (λ (m : ModuleNode ℕ). list_all (test (known_in parts m)) (parts_of m))
+    (modules_of parts)
 
 -- ---- places
 
@@ -67,7 +73,8 @@ no_more (x ∷ xs) = false
 -- each place is there, and is that of its scope
 abbrev pub is_in_scope : Known → Placed ℕ → Bool
 is_in_scope known p =
-    list_all (λ (n : NameAt ℕ). is_some (signal_at p.scope n.name)) (signals_named p.part) && no_more (parameters_named p.part) && refers known p.scope p.part
+    list_all (λ (n : NameAt ℕ). is_some (signal_at p.scope n.name)) (signals_named p.part)
+        && no_more (parameters_named p.part) && refers known p.scope p.part
 
 -- ---- kinds
 
@@ -129,11 +136,13 @@ each_binding test [] [] = true
 each_binding test (b ∷ bs) (d ∷ ds) = test b d && each_binding test bs ds
 each_binding test _ _ = false
 
-abbrev pub each_bound : (Binding ℕ → InterfaceNode → Bool) → List (Binding ℕ) → Option (List InterfaceNode) → Bool
+abbrev pub each_bound : (Binding ℕ → InterfaceNode → Bool) → List (Binding ℕ) → Option (List InterfaceNode)
+    → Bool
 each_bound test bindings None = false
 each_bound test bindings (Some interface) = each_binding test bindings interface
 
--- kinds fit: a test is `bool`, and an emission, a first value, a combine word, an argument, a result and a bound signal
+-- kinds fit: a test is `bool`, and an emission, a first value, a combine word, an argument, a result and a
+-- bound signal
 -- have the kind of their place
 abbrev pub kinds_fit : Known → StatementPart ℕ → Bool
 kinds_fit known (Test x) = has_kind known.kinds [] kind.Bool x
@@ -142,7 +151,8 @@ kinds_fit known (Times n) = true
 kinds_fit known (Locals signals) = list_all sig_fits signals
 kinds_fit known (Exit t) = true
 kinds_fit known (Call callee bindings) =
-    each_bound (λ b d. is_kind d.signal.kind (slice_get known.kinds b.right.name)) bindings (slice_get known.interfaces callee.name)
+    each_bound (λ b d. is_kind d.signal.kind (slice_get known.kinds b.right.name)) bindings
+        (slice_get known.interfaces callee.name)
 kinds_fit known (Start a) = start_fits known.kinds a (slice_get known.signatures a.body.name)
 
 -- the kinds of a declaration fit: of an interface, or of a body's expression over its parameters
@@ -174,7 +184,8 @@ abbrev pub no_input_emitted : Known → InScope → StatementPart ℕ → Bool
 no_input_emitted known scope (Emission n value) = emits_in_scope scope n.name
 no_input_emitted known scope (Start a) = result_emits scope a.signal
 no_input_emitted known scope (Call callee bindings) =
-    each_bound (λ b d. is_input d.dir || emits_in_scope scope b.right.name) bindings (slice_get known.interfaces callee.name)
+    each_bound (λ b d. is_input d.dir || emits_in_scope scope b.right.name) bindings
+        (slice_get known.interfaces callee.name)
 no_input_emitted known scope _ = true
 
 -- ---- runs
@@ -185,7 +196,8 @@ places_from n (b ∷ bs) = (b.left.name == n) && places_from (n + 1) bs
 
 -- a run has one binding for each interface signal of the module that it runs, in its order
 abbrev pub binds_interface : Known → StatementPart ℕ → Bool
-binds_interface known (Call callee bindings) = places_from 0 bindings && each_bound (λ b d. true) bindings (slice_get known.interfaces callee.name)
+binds_interface known (Call callee bindings) = places_from 0 bindings && each_bound (λ b d. true) bindings
+    (slice_get known.interfaces callee.name)
 binds_interface known _ = true
 
 -- ---- names
@@ -203,10 +215,13 @@ abbrev pub locals_differ : StatementPart ℕ → Bool
 locals_differ (Locals signals) = names_differ (map (λ (s : SignalNode). s.name) signals)
 locals_differ _ = true
 
--- no name stands twice among modules, among bodies and hosts, in an interface, in a `signal` list or in a parameter list
+-- no name stands twice among modules, among bodies and hosts, in an interface, in a `signal` list or in a
+-- parameter list
 abbrev pub all_names_differ : List (Part ℕ) → Bool
 all_names_differ parts =
-    names_differ (map (λ (m : ModuleNode ℕ). m.name) (modules_of parts)) && names_differ (map (λ (s : Signature). s.name) (signatures_of parts)) && list_all declares_once parts && in_each_part (λ known p. locals_differ p.part) parts
+    names_differ (map (λ (m : ModuleNode ℕ). m.name) (modules_of parts))
+        && names_differ (map (λ (s : Signature). s.name) (signatures_of parts))
+        && list_all declares_once parts && in_each_part (λ known p. locals_differ p.part) parts
 
 -- ---- limits
 
@@ -225,7 +240,8 @@ is_limited part = counts part && list_all is_small (expressions_of part)
 -- parameters and the answers of bodies are valued, and interface signals have a direction of an interface
 abbrev pub is_formed : Part ℕ → Bool
 is_formed (top.Module m) = list_all (λ (d : InterfaceNode). is_interface d.dir) m.interface
-is_formed (top.Body b) = list_all (λ (p : ParameterNode). is_valued p.kind) b.parameters && is_valued b.answer && is_small b.expr
+is_formed (top.Body b) = list_all (λ (p : ParameterNode). is_valued p.kind) b.parameters
+    && is_valued b.answer && is_small b.expr
 is_formed (top.Host h) = list_all is_valued h.parameters
 
 -- ---- the whole

@@ -1,5 +1,7 @@
--- Where the parentheses of a written expression stand: an operand whose level is looser than its place takes has
--- them. The levels go from the loosest to the tightest, as in C, and operators of one level group to the left.
+-- Where the parentheses of a written expression stand: an operand whose level is looser than its place
+-- takes has
+-- them. The levels go from the loosest to the tightest, as in C, and operators of one level group to the
+-- left.
 -- This project's own.
 use Rattle.std.specs.Prelude.{ℕ, Bool, List, nat_lt, if◌then◌else◌}
 use Rattle.host_expr.specs.declared.expr.Op.{Op}
@@ -60,7 +62,8 @@ right_of_op op.Div = level.Factor
 right_of_op op.Rem = level.Factor
 
 -- the operands of a node, each in parentheses where it needs them
-abbrev pub operands_step : {A : Type 0} → (A → A) → e.ExprNode-F (List ℕ) (Levelled A) (Levelled A) → e.ExprNode-F (List ℕ) A A
+abbrev pub operands_step : {A : Type 0} → (A → A) → e.ExprNode-F (List ℕ) (Levelled A) (Levelled A)
+    → e.ExprNode-F (List ℕ) A A
 operands_step p (e.Int n) = e.Int n
 operands_step p (e.Bool b) = e.Bool b
 operands_step p (e.Text t) = e.Text t
@@ -78,12 +81,15 @@ operands_step p (e.Or a b) = e.Or (at p level.Either a) (at p level.Both b)
 operands_step p (e.Choose a b c) = e.Choose (at p level.Either a) (at p level.Either b) (at p level.Either c)
 
 -- by one layer: what a node makes of its operands as they stand in the text, and its level
-abbrev pub levelled_step : {A : Type 0} → (A → A) → (e.ExprNode-F (List ℕ) A A → A) → e.ExprNode-F (List ℕ) (Levelled A) (Levelled A) → Levelled A
+abbrev pub levelled_step : {A : Type 0} → (A → A) → (e.ExprNode-F (List ℕ) A A → A)
+    → e.ExprNode-F (List ℕ) (Levelled A) (Levelled A) → Levelled A
 levelled_step p step node = record { level = level_step node; value = step (operands_step p node) }
 
 -- a recursion over an expression as it is written: `p` is what parentheses make of an operand
 abbrev pub levelled : {A : Type 0} → (A → A) → (e.ExprNode-F (List ℕ) A A → A) → Expr (List ℕ) → Levelled A
 levelled {A} p step = fold-Expr (List ℕ) (Levelled A) (Levelled A) (levelled_step p step) (λ x. x.node)
 
-abbrev pub levelled_node : {A : Type 0} → (A → A) → (e.ExprNode-F (List ℕ) A A → A) → ExprNode (List ℕ) → Levelled A
-levelled_node {A} p step = fold-ExprNode (List ℕ) (Levelled A) (Levelled A) (levelled_step p step) (λ x. x.node)
+abbrev pub levelled_node : {A : Type 0} → (A → A) → (e.ExprNode-F (List ℕ) A A → A) → ExprNode (List ℕ)
+    → Levelled A
+levelled_node {A} p step = fold-ExprNode (List ℕ) (Levelled A) (Levelled A) (levelled_step p step)
+    (λ x. x.node)

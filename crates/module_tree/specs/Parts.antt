@@ -1,5 +1,7 @@
--- The parts of a module's statements that names and kinds are judged by, in the order of the text, each with what is
--- in scope there. R is a name where the tree is as written, and a place where names are resolved. This project's own.
+-- The parts of a module's statements that names and kinds are judged by, in the order of the text, each
+-- with what is
+-- in scope there. R is a name where the tree is as written, and a place where names are resolved. This
+-- project's own.
 use Rattle.std.specs.Prelude.{ℕ, ◌+◌, Option, Some, None, List, [], ◌∷◌, ◌++◌, map, length}
 use Rattle.std.specs.List.{flat_map}
 use Rattle.hh_base.specs.declared.value.Pos.{Pos}
@@ -81,7 +83,8 @@ delay_walk (delay.Immediate x) = here (Test x)
 
 abbrev pub locals_walk : {R : Type 0} → List SignalNode → Walk R → Walk R
 locals_walk signals block scope before =
-    block (with_signals before.signals signals scope) (record { signals = before.signals + length signals; traps = before.traps })
+    block (with_signals before.signals signals scope)
+        (record { signals = before.signals + length signals; traps = before.traps })
 
 abbrev pub trap_walk : {R : Type 0} → List ℕ → Walk R → Walk R
 trap_walk name block scope before =
@@ -118,11 +121,13 @@ block_walk {R} = fold-BlockNode R (Walk R) (Walk R) (Walk R) statement_step bloc
 
 -- the parts of a module, in the order of the text
 abbrev pub parts_of : {R : Type 0} → ModuleNode R → List (Placed R)
-parts_of m = (block_walk m.block (record { signals = interface_signals m.interface; traps = [] }) (record { signals = length m.interface; traps = 0 })).parts
+parts_of m = (block_walk m.block (record { signals = interface_signals m.interface; traps = [] })
+    (record { signals = length m.interface; traps = 0 })).parts
 
 -- ---- what an expression reads
 
-abbrev pub read_step : {R : Type 0} → e.ExprNode-F R (Pos → List (NameAt R)) (List (NameAt R)) → Pos → List (NameAt R)
+abbrev pub read_step : {R : Type 0} → e.ExprNode-F R (Pos → List (NameAt R)) (List (NameAt R)) → Pos
+    → List (NameAt R)
 read_step (e.Now r) p = record { pos = p; name = r } ∷ []
 read_step (e.Pre r) p = record { pos = p; name = r } ∷ []
 read_step (e.NowVal r) p = record { pos = p; name = r } ∷ []
@@ -140,7 +145,8 @@ read_step _ p = []
 abbrev pub signals_read : {R : Type 0} → Expr R → List (NameAt R)
 signals_read {R} = fold-Expr R (Pos → List (NameAt R)) (List (NameAt R)) read_step (λ x. x.node x.pos)
 
-abbrev pub parameter_step : {R : Type 0} → e.ExprNode-F R (Pos → List (NameAt R)) (List (NameAt R)) → Pos → List (NameAt R)
+abbrev pub parameter_step : {R : Type 0} → e.ExprNode-F R (Pos → List (NameAt R)) (List (NameAt R)) → Pos
+    → List (NameAt R)
 parameter_step (e.Arg r) p = record { pos = p; name = r } ∷ []
 parameter_step (e.Not a) p = a
 parameter_step (e.Neg a) p = a
@@ -175,7 +181,8 @@ signals_written (Start a) = if_any a.signal
 signals_written _ = []
 
 abbrev pub signals_named : {R : Type 0} → StatementPart R → List (NameAt R)
-signals_named {R} part = signals_written part ++ flat_map (λ (x : ExprAt R). signals_read x.expr) (expressions_of part)
+signals_named {R} part = signals_written part ++ flat_map (λ (x : ExprAt R). signals_read x.expr)
+    (expressions_of part)
 
 abbrev pub parameters_named : {R : Type 0} → StatementPart R → List (NameAt R)
 parameters_named {R} part = flat_map (λ (x : ExprAt R). parameters_read x.expr) (expressions_of part)

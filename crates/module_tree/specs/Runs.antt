@@ -1,7 +1,10 @@
--- Which module runs which, once names are resolved, and orders in which each module stands behind all that it runs.
--- Where there is such an order of all modules, none reaches itself by runs. (Topological order, as in Knuth, The Art of
+-- Which module runs which, once names are resolved, and orders in which each module stands behind all that
+-- it runs.
+-- Where there is such an order of all modules, none reaches itself by runs. (Topological order, as in
+-- Knuth, The Art of
 -- Computer Programming, vol. 1, 2.2.3.)
-use Rattle.std.specs.Prelude.{ℕ, ◌==◌, ◌&&◌, Bool, true, List, [], ◌∷◌, map, length, slice_get, Option, Some, None}
+use Rattle.std.specs.Prelude.{ℕ, ◌==◌, ◌&&◌, Bool, true, List, [], ◌∷◌, map, length, slice_get, Option, Some}
+use Rattle.std.specs.Prelude.{None}
 use Rattle.std.specs.List.{flat_map, list_all, list_any, range_with_len}
 use Rattle.module_tree.specs.declared.source.ModuleNode.{ModuleNode}
 use Rattle.module_tree.specs.declared.source.Part.{Part}
@@ -30,8 +33,10 @@ is_among ms m = list_any (λ n. n == m) ms
 -- behind the modules `done`, each of these stands behind all that it runs
 abbrev pub stand_behind_callees : List (List ℕ) → List ℕ → List ℕ → Bool
 stand_behind_callees runs done [] = true
-stand_behind_callees runs done (m ∷ ms) = list_all (is_among done) (or_none (slice_get runs m)) && stand_behind_callees runs (m ∷ done) ms
+stand_behind_callees runs done (m ∷ ms) = list_all (is_among done) (or_none (slice_get runs m))
+    && stand_behind_callees runs (m ∷ done) ms
 
 -- each module is in the order, and stands behind all that it runs
 abbrev pub is_callees_first : List (List ℕ) → List ℕ → Bool
-is_callees_first runs order = list_all (is_among order) (range_with_len 0 (length runs)) && stand_behind_callees runs [] order
+is_callees_first runs order = list_all (is_among order) (range_with_len 0 (length runs))
+    && stand_behind_callees runs [] order

@@ -1,4 +1,5 @@
--- The source trees that some module text has, but for positions, said as tests on the tree. This project's own.
+-- The source trees that some module text has, but for positions, said as tests on the tree. This project's
+-- own.
 use Rattle.std.specs.Prelude.{ℕ, ◌&&◌, Bool, true, false, List, nat_le}
 use Rattle.std.specs.List.{list_all, list_any}
 use Rattle.module_tree.specs.declared.limits.TheConstants.{OPEN_LIMIT}

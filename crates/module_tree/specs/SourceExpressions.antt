@@ -1,4 +1,5 @@
--- What an outermost expression of a module text keeps: its words, its size and its nesting. This project's own.
+-- What an outermost expression of a module text keeps: its words, its size and its nesting. This project's
+-- own.
 use Rattle.std.specs.Prelude.{ℕ, suc, ◌+◌, ◌&&◌, Bool, true, List, nat_le, max}
 use Rattle.host_expr.specs.declared.expr.Expr.{Expr}
 use Rattle.host_expr.specs.declared.expr.ExprNode.TheOpen as e
@@ -7,7 +8,8 @@ use Rattle.module_tree.specs.declared.limits.TheConstants.{EXPRESSION_LIMIT}
 use Rattle.module_tree.specs.Parentheses.{levelled}
 use Rattle.module_tree.specs.SourceWords.{is_written_name, is_written_number, is_written_text}
 
--- by one layer, with what its parts gave in their places: whether a text can write its names, numbers and texts
+-- by one layer, with what its parts gave in their places: whether a text can write its names, numbers and
+-- texts
 abbrev pub words_step : e.ExprNode-F (List ℕ) Bool Bool → Bool
 words_step (e.Int n) = is_written_number n
 words_step (e.Bool b) = true

@@ -61,7 +61,9 @@ fits_binding b = fits_name b.left && fits_name b.right
 
 abbrev pub fits_async : AsyncNode (List ℕ) → Bool
 fits_async a =
-    if_there fits_name a.signal && fits_name a.body && list_all fits_expression a.args && if_there is_written_text a.kill && if_there is_written_text a.suspend && if_there is_written_text a.resume
+    if_there fits_name a.signal && fits_name a.body && list_all fits_expression a.args
+        && if_there is_written_text a.kill && if_there is_written_text a.suspend
+        && if_there is_written_text a.resume
 
 -- by one layer, with what its parts gave in their places
 abbrev pub statement_step : s.Statement-F (List ℕ) Bool Bool Bool → Bool
@@ -93,6 +95,7 @@ abbrev pub fits_block : BlockNode (List ℕ) → Bool
 fits_block = fold-BlockNode (List ℕ) Bool Bool Bool statement_step block_step (λ n. n.what)
 
 abbrev pub fits_part : Part (List ℕ) → Bool
-fits_part (top.Body b) = is_written_name b.name && list_all fits_parameter b.parameters && is_valued b.answer && fits_expression b.expr
+fits_part (top.Body b) = is_written_name b.name && list_all fits_parameter b.parameters
+    && is_valued b.answer && fits_expression b.expr
 fits_part (top.Host h) = is_written_name h.name && list_all is_valued h.parameters
 fits_part (top.Module m) = is_written_name m.name && list_all fits_interface m.interface && fits_block m.block

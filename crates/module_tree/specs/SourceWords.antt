@@ -1,5 +1,6 @@
 -- Which names, numbers and texts a module text can write. This project's own.
-use Rattle.std.specs.Prelude.{ℕ, ◌^◌, ◌&&◌, Bool, true, false, not, ℤ, pos, negsuc, List, length, nat_le, nat_lt}
+use Rattle.std.specs.Prelude.{ℕ, ◌^◌, ◌&&◌, Bool, true, false, not, ℤ, pos, negsuc, List, length, nat_le}
+use Rattle.std.specs.Prelude.{nat_lt}
 use Rattle.std.specs.Str.{chars, is_utf8}
 use Rattle.hh_base.specs.Name.{is_word}
 use Rattle.hh_base.specs.Keyword.{is_keyword}

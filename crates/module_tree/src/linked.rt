@@ -11,9 +11,12 @@ use std::marker::Model;
 /// The tree of a whole module text with its names resolved.
 ///
 /// A module's place counts the modules of the text in order, and a body's or host's counts both together. A
-/// parameter's is that in its list. A signal's counts the interface of its module, and then the signals of its
-/// `signal` statements in the order of the text; a trap's counts the traps of its module in that order. The left
-/// side of a binding is a place in the interface of the module that is run, and the right side one in the module
+/// parameter's is that in its list. A signal's counts the interface of its module, and then the signals of
+/// its
+/// `signal` statements in the order of the text; a trap's counts the traps of its module in that order. The
+/// left
+/// side of a binding is a place in the interface of the module that is run, and the right side one in the
+/// module
 /// that runs it; a run has one binding for each signal of that interface, in its order.
 ///
 /// Contracts see the list of its declarations, which keeps `IsLinked`.
@@ -39,11 +42,13 @@ impl Model for Linked {
 
     ghost view = { λ m. m.parts };
 
-    ghost invariant = { λ m. IsLinked m.parts × (is_callees_first (runs_of m.parts) m.callees_first.items ≡ true) };
+    ghost invariant = { λ m. IsLinked m.parts × (is_callees_first (runs_of m.parts)
+        m.callees_first.items ≡ true) };
 }
 
 impl Linked {
-    /// Takes no memory. `callees_first` are the places of all modules, each behind those of the modules that it runs.
+    /// Takes no memory. `callees_first` are the places of all modules, each behind those of the modules
+    /// that it runs.
     pub fn new(parts: Items<Part<u32>>, callees_first: Vec<u32>) -> Linked
         requires linked { IsLinked parts }
         requires order { is_callees_first (runs_of parts) callees_first.items ≡ true }
@@ -62,7 +67,8 @@ impl Linked {
         self.parts.as_slice()
     }
 
-    /// The places of all modules, each behind those of the modules that it runs. So no module reaches itself by runs.
+    /// The places of all modules, each behind those of the modules that it runs. So no module reaches
+    /// itself by runs.
     pub fn callees_first(&self) -> &[u32]
         ensures { is_callees_first (runs_of self.now) result.now ≡ true }
     {

@@ -1,5 +1,7 @@
-//! The tree of a module text, as it was written: `R` is a name where it stands in `Modules`, and the number that
-//! it stands for once names are resolved. Each `pos` is the place of a node's first token, if nothing else is said.
+//! The tree of a module text, as it was written: `R` is a name where it stands in `Modules`, and the number
+//! that
+//! it stands for once names are resolved. Each `pos` is the place of a node's first token, if nothing else
+//! is said.
 
 ghost use Rattle.std.specs.Prelude.{◌≡◌, true};
 ghost use Rattle.module_tree.specs.Source.{is_source};
@@ -136,7 +138,8 @@ pub enum Delay<R: Drop> {
     Immediate(ExprAt<R>),
 }
 
-/// What a statement waits for from the next instant on: that the expression is true, once or a number of times.
+/// What a statement waits for from the next instant on: that the expression is true, once or a number of
+/// times.
 #[derive(Drop)]
 pub enum Later<R: Drop> {
     Once(ExprAt<R>),
@@ -161,7 +164,8 @@ pub struct AsyncNode<R: Drop> {
     pub resume: Option<Text>,
 }
 
-/// The tree of a whole module text. Some text within the grammar and its limits has it, but for positions: this is
+/// The tree of a whole module text. Some text within the grammar and its limits has it, but for positions:
+/// this is
 /// `is_source`. Contracts see the list of its declarations.
 #[derive(Drop)]
 pub struct Modules {
@@ -179,7 +183,8 @@ impl Model for Modules {
 
     ghost Value = { List (ATop (List ℕ)) };
 
-    ghost coded = { Prim.hlevel (codes, (node.the_row name.the_row).coded, (block.the_row name.the_row).coded) };
+    ghost coded = { Prim.hlevel (codes, (node.the_row name.the_row).coded,
+        (block.the_row name.the_row).coded) };
 
     ghost view = { λ m. m.parts };
 

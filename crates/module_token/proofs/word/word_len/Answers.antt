@@ -20,12 +20,16 @@ loop-letter-preserved c =
     })
 
 pub returns-in-None-clause-value : goal.returns-in-None-clause-value
-returns-in-None-clause-value c = ends c.args.text.now c.loop-letter.len (ap length c.loop-letter.invariant.rest ∙ c.in-None.ensures.steps.0.0) c.loop-letter.invariant.total
+returns-in-None-clause-value c = ends c.args.text.now c.loop-letter.len
+    (ap length c.loop-letter.invariant.rest ∙ c.in-None.ensures.steps.0.0) c.loop-letter.invariant.total
 
 pub returns-then-not-is_xid_continue-clause-value : goal.returns-then-not-is_xid_continue-clause-value
 returns-then-not-is_xid_continue-clause-value c =
     let at = c.loop-letter.invariant in
-    stops c.args.text.now (chars_rest c.next.new.self) c.loop-letter.len c.in-Some.letter at.utf8 (at.rest ∙ c.in-Some.ensures.steps.0) (sym c.is_xid_continue.ensures.value ∙ c.if-not-is_xid_continue.true) at.total
+    stops c.args.text.now (chars_rest c.next.new.self) c.loop-letter.len c.in-Some.letter at.utf8
+    (at.rest ∙ c.in-Some.ensures.steps.0) (sym c.is_xid_continue.ensures.value
+    ∙ c.if-not-is_xid_continue.true) at.total
 
 pub returns-then-not-is_xid_continue-clause-cut : goal.returns-then-not-is_xid_continue-clause-cut
-returns-then-not-is_xid_continue-clause-cut c = IsCharBoundary-from_drop c.args.text.now c.loop-letter.len c.loop-letter.invariant.within c.loop-letter.invariant.utf8
+returns-then-not-is_xid_continue-clause-cut c = IsCharBoundary-from_drop c.args.text.now c.loop-letter.len
+    c.loop-letter.invariant.within c.loop-letter.invariant.utf8
