@@ -1,4 +1,4 @@
--- Languages: which texts stand for which trees. A text is a list of tokens. The last list, the marks, has a
+-- Languages: which texts stand for which trees. A text is a list of tokens. The last list, the counts, has a
 -- number for each token of the text: inside an expression 1 for a leaf or operator and 0 for any other
 -- token; outside expressions the rank, which tells of a leaf or operator that it is the n-th of its
 -- outermost expression, from 1, and is 0 for any other token. This project's own.
@@ -75,7 +75,7 @@ abbrev pub opened : {K A : Type 0} → ℕ → K → (ℕ → ℕ → Lang K A) 
 opened zero a rest = nothing
 opened (suc room) a rest = token a >>= rest room
 
--- the ranks of marked tokens, where so many leaves and operators stand before them
+-- the ranks of counted tokens, where so many leaves and operators stand before them
 abbrev pub ranks : ℕ → List ℕ → List ℕ
 ranks c [] = []
 ranks c (zero ∷ ms) = 0 ∷ ranks c ms

@@ -2,11 +2,16 @@
 
 use crate::command_line::CommandLine;
 use crate::item::{Item, Queue};
+use crate::keyword::{KEYWORDS, Keyword, keyword_of};
 use crate::literal::{LiteralFault, print_literal, read_literal};
 use crate::name::{NAME_LIMIT, Name, NameFault, same_name};
 use crate::text::{TEXT_LIMIT, Text, TextFault, same_text};
 use crate::value::{Kind, Value, copy_values, default_of, same_value};
 use std::test::Fail;
+
+/// The keywords, as docs/LANGUAGE.md lists them.
+const WORDS: &str = "module in out inout body host signal nothing pause halt emit sustain if else loop fork par \
+await every do abort weakabort suspend immediate count trap break run async call kill resume combine pure int bool text true false";
 
 #[test]
 fn texts(rt: HostRuntime) -> Result<(), Fail> {
@@ -41,6 +46,13 @@ fn names(rt: HostRuntime) -> Result<(), Fail> {
             Err(NameFault::NameLong)
         )
     );
+    let mut words = WORDS.split(' ');
+    for keyword in KEYWORDS {
+        assert_eq!(rt; words.next(), Some(keyword.text()));
+    }
+    assert_eq!(rt; words.next(), None);
+    assert_eq!(rt; keyword_of("weakabort"), Some(Keyword::WeakAbort));
+    assert_eq!(rt; keyword_of("unit"), None);
     Ok(())
 }
 
