@@ -22,9 +22,11 @@ among_spelled : (ks : List Keyword) (w : List ℕ) (k : Keyword) → keyword_amo
 among_spelled [] w k e = cc
 among_spelled (x ∷ xs) w k e =
     elim (bytes_eq w (keyword_text x)) as (λ t. bytes_eq w (keyword_text x) ≡ t
-        → (if t then Some x else keyword_among xs w) ≡ Some k → w ≡ keyword_text k)
-    [ true ↦ λ d h. (bytes_eq-Decides w (keyword_text x)).0 d ∙ ap keyword_text (same h) | false ↦
-        λ d h. among_spelled xs w k h ] refl e
+    → (if t then Some x else keyword_among xs w) ≡ Some k → w ≡ keyword_text k) [
+      | true ↦ λ d h. (bytes_eq-Decides w (keyword_text x)).0 d ∙ ap keyword_text (same h)
+      | false ↦
+          λ d h. among_spelled xs w k h
+    ] refl e
   where
     same : Some x ≡ Some k → x ≡ k
     same h = cc

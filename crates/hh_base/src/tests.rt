@@ -10,8 +10,10 @@ use crate::value::{Kind, Value, copy_values, default_of, same_value};
 use std::test::Fail;
 
 /// The keywords, as docs/LANGUAGE.md lists them.
-const WORDS: &str = "module in out inout body host signal nothing pause halt emit sustain if else loop fork par \
-await every do abort weakabort suspend immediate count trap break run async call kill resume combine pure int bool text true false";
+const WORDS: &str =
+    "module in out inout body host signal nothing pause halt emit sustain if else loop fork par \
+await every do abort weakabort suspend immediate count trap break run async call kill resume combine pure int \
+bool text true false";
 
 #[test]
 fn texts(rt: HostRuntime) -> Result<(), Fail> {

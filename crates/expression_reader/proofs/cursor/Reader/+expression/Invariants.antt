@@ -8,7 +8,7 @@ use Rattle.expression_reader.proofs.cursor.Reader.+expression.Given as goal
 abbrev pub decreases-inside : goal.decreases-inside
 decreases-inside l = 20 * l.room
 
-abbrev pub decreases-operand : goal.decreases-atom
+abbrev pub decreases-operand : goal.decreases-operand
 decreases-operand l = 20 * l.room + 1
 
 abbrev pub decreases-negated : goal.decreases-negated
@@ -17,10 +17,10 @@ decreases-negated l = 20 * l.room + 2
 abbrev pub decreases-negative : goal.decreases-negative
 decreases-negative l = 20 * l.room + 2
 
-abbrev pub decreases-factor : goal.decreases-unary
+abbrev pub decreases-factor : goal.decreases-factor
 decreases-factor l = 20 * l.room + 3
 
-abbrev pub decreases-between : goal.decreases-operand
+abbrev pub decreases-between : goal.decreases-between
 decreases-between l = 20 * l.room + rank l.grouping
 
 abbrev pub decreases-term : goal.decreases-term
@@ -38,7 +38,7 @@ decreases-comparison l = 20 * l.room + 11
 abbrev pub decreases-branches : goal.decreases-branches
 decreases-branches l = 20 * l.room + 18
 
-abbrev pub decreases-expression : goal.decreases-expr
+abbrev pub decreases-expression : goal.decreases-expression
 decreases-expression l = 20 * l.room + 19
 
 abbrev pub invariant-chain-terms : goal.invariant-chain-terms
