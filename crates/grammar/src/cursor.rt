@@ -158,10 +158,10 @@ impl<T: Tokens> Cursor<T> {
     ///
     /// # Errors
     /// `Large` where no more may be counted.
-    #[tactic(auto, unfolding(crate::specs::Parser::counted, crate::specs::Parser::skipped, crate::specs::Parser::fail, crate::specs::Parser::next,),)]
+    #[tactic(auto, unfolding(crate::specs::Parser::counted, crate::specs::Parser::skipped, crate::specs::Parser::fail, crate::specs::Parser::next))]
     pub fn skip_counted(&mut self) -> Result<(), Refusal>
-        ensures reads { Reads as_refusal (parser.counted T.Kind.alphabet parser.skipped self.old) result
-            self.new }
+        ensures reads { Reads as_refusal
+            (parser.counted T.Kind.alphabet parser.skipped self.old) result self.new }
         ensures kept { OnErr result (self.new ≡ self.old) }
     {
         if self.count >= T::Kind::most_counted() {
@@ -176,10 +176,10 @@ impl<T: Tokens> Cursor<T> {
     ///
     /// # Errors
     /// `Unexpected` at another token, `EndOfText` at the end, `Large` where no more may be counted.
-    #[tactic(auto, unfolding(crate::specs::Parser::counted_token, crate::specs::Parser::take, crate::specs::Parser::refusal, crate::specs::Parser::counted, crate::specs::Parser::skipped, crate::specs::Parser::fail, crate::specs::Parser::next,),)]
+    #[tactic(auto, unfolding(crate::specs::Parser::counted_token, crate::specs::Parser::take, crate::specs::Parser::refusal, crate::specs::Parser::counted, crate::specs::Parser::skipped, crate::specs::Parser::fail, crate::specs::Parser::next))]
     pub fn counted_token(&mut self, kind: T::Kind) -> Result<u32, Refusal>
-        ensures reads { Reads as_refusal (parser.counted_token T.Kind.alphabet kind self.old) result
-            self.new }
+        ensures reads { Reads as_refusal
+            (parser.counted_token T.Kind.alphabet kind self.old) result self.new }
         ensures kept { OnErr result (self.new ≡ self.old) }
     {
         let place = self.place();

@@ -1,6 +1,5 @@
-//! Languages and readers as combinators, generic in the kinds of tokens, with their laws in `proofs/`, and
-//! a cursor over tokens whose steps read as the
-//! readers of one token do.
+//! Languages and readers as combinators, generic in the kinds of tokens, with their laws in `proofs/`, and a
+//! cursor over tokens whose steps read as the readers of one token do.
 #![tactic(auto)]
 
 pub mod cursor;

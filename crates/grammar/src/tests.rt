@@ -1,5 +1,5 @@
 //! A cursor over tokens of two kinds: words, and a bracket that opens. Two words may be counted.
-ghost use Rattle.std.specs.Prelude.{◌≡◌, Bool, true, false, cond, refl, List, [], ◌∷◌, map};
+ghost use Rattle.std.specs.Prelude.{true, false, cond, refl, [], ◌∷◌, map};
 
 use crate::cursor::Cursor;
 use crate::fault::{Fault, Refusal};

@@ -1,5 +1,5 @@
 //! Literals of values.
-ghost use Rattle.std.specs.Prelude.{◌≡◌, ℕ, ℤ, List, [], ◌∷◌, ◌++◌, true, Some, take, option_map, IfOk};
+ghost use Rattle.std.specs.Prelude.{◌≡◌, ℕ, ℤ, List, [], ◌∷◌, ◌++◌, true, Some, option_map, IfOk};
 ghost use Rattle.std.specs.Prelude.{IfSome, IsSomeAnd, IfNone, MatchResult, OnOk, OnErr, IsTrue, ◌↔◌};
 ghost use Rattle.std.specs.Prelude.{slice_index, length, ◌<◌};
 ghost use Rattle.std.specs.Fmt.{signed_decimal};

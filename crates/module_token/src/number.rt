@@ -39,7 +39,7 @@ fn number_cut(len: usize, digits: &str) -> Front
 }
 
 /// The number at the front of the text.
-#[tactic(auto, using(crate::proofs::Digits::digits_cut, crate::proofs::Digits::digits_all, crate::proofs::Digits::number_cuts,),)]
+#[tactic(auto, using(crate::proofs::Digits::digits_cut, crate::proofs::Digits::digits_all, crate::proofs::Digits::number_cuts))]
 pub fn number(text: &str) -> Front
     requires { is_ascii_digit (slice_index text.now 0) ≡ true }
     ensures value { result ≡ number_front text.now }

@@ -1,5 +1,5 @@
 //! Quoted texts.
-ghost use Rattle.std.specs.Prelude.{◌≡◌, ◌+◌, ◌-◌, ◌<◌, ◌≤◌, length, drop, slice_index, ◌^◌};
+ghost use Rattle.std.specs.Prelude.{◌≡◌, ◌+◌, ◌-◌, ◌<◌, length, slice_index, ◌^◌};
 ghost use Rattle.hh_base.specs.Bytes.{quote};
 ghost use Rattle.module_token.specs.Cut.{CutsAt};
 ghost use Rattle.module_token.specs.Front.{quote_end, quoted_front};

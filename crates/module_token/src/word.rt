@@ -1,5 +1,5 @@
 //! Words.
-ghost use Rattle.std.specs.Prelude.{◌≡◌, ◌≤◌, ◌∷◌, true, ℕ, List, length};
+ghost use Rattle.std.specs.Prelude.{◌≡◌, ◌∷◌, true, ℕ, List};
 ghost use Rattle.std.specs.Str.{chars, IsCharBoundary};
 ghost use Rattle.hh_base.specs.Name.{starts_word};
 ghost use Rattle.module_token.specs.Cut.{CutsAt};
