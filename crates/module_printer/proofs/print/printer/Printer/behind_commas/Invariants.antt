@@ -5,4 +5,4 @@ use Rattle.module_printer.proofs.print.printer.Printer.behind_commas.Given as go
 
 abbrev pub invariant-loop-item : goal.invariant-loop-item
 invariant-loop-item g l = l.self ≡ l.fn.self ++ spaced (behind (codes ",")
-    (map g.T.Tokens.tokens (take l.item-index l.items)))
+    (map g.T.Printable.tokens (take l.item-index l.items)))
