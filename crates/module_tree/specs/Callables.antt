@@ -28,10 +28,19 @@ modules_of (top.Host h ∷ parts) = modules_of parts
 abbrev pub signatures_of : {R : Type 0} → List (Part R) → List Signature
 signatures_of [] = []
 signatures_of (top.Module m ∷ parts) = signatures_of parts
-signatures_of (top.Body b ∷ parts) = record { pos = b.pos; name = b.name; parameters =
-    map (λ (p : ParameterNode). p.kind) b.parameters; answer = b.answer } ∷ signatures_of parts
-signatures_of (top.Host h ∷ parts) = record { pos = h.pos; name = h.name; parameters = h.parameters;
-    answer = h.answer } ∷ signatures_of parts
+signatures_of (top.Body b ∷ parts) = record {
+  pos = b.pos;
+  name = b.name;
+  parameters =
+      map (λ (p : ParameterNode). p.kind) b.parameters;
+  answer = b.answer;
+} ∷ signatures_of parts
+signatures_of (top.Host h ∷ parts) = record {
+  pos = h.pos;
+  name = h.name;
+  parameters = h.parameters;
+  answer = h.answer;
+} ∷ signatures_of parts
 
 -- the interfaces of its modules
 abbrev pub interfaces_of : {R : Type 0} → List (Part R) → List (List InterfaceNode)

@@ -49,8 +49,12 @@ sigs_of {R} m = map (λ (d : InterfaceNode). d.signal) m.interface
     ++ flat_map (λ (p : Placed R). locals_of p.part) (parts_of m)
 
 abbrev pub known_in : {R : Type 0} → List (Part R) → ModuleNode R → Known
-known_in parts m = record { interfaces = interfaces_of parts; signatures = signatures_of parts; kinds =
-    map (λ (s : SignalNode). s.kind) (sigs_of m) }
+known_in parts m = record {
+  interfaces = interfaces_of parts;
+  signatures = signatures_of parts;
+  kinds =
+      map (λ (s : SignalNode). s.kind) (sigs_of m);
+}
 
 -- what holds of each part of each module
 abbrev pub in_each_part : (Known → Placed ℕ → Bool) → List (Part ℕ) → Bool
@@ -74,7 +78,7 @@ no_more (x ∷ xs) = false
 abbrev pub is_in_scope : Known → Placed ℕ → Bool
 is_in_scope known p =
     list_all (λ (n : NameAt ℕ). is_some (signal_at p.scope n.name)) (signals_named p.part)
-        && no_more (parameters_named p.part) && refers known p.scope p.part
+    && no_more (parameters_named p.part) && refers known p.scope p.part
 
 -- ---- kinds
 
@@ -152,7 +156,7 @@ kinds_fit known (Locals signals) = list_all sig_fits signals
 kinds_fit known (Exit t) = true
 kinds_fit known (Call callee bindings) =
     each_bound (λ b d. is_kind d.signal.kind (slice_get known.kinds b.right.name)) bindings
-        (slice_get known.interfaces callee.name)
+    (slice_get known.interfaces callee.name)
 kinds_fit known (Start a) = start_fits known.kinds a (slice_get known.signatures a.body.name)
 
 -- the kinds of a declaration fit: of an interface, or of a body's expression over its parameters
@@ -185,7 +189,7 @@ no_input_emitted known scope (Emission n value) = emits_in_scope scope n.name
 no_input_emitted known scope (Start a) = result_emits scope a.signal
 no_input_emitted known scope (Call callee bindings) =
     each_bound (λ b d. is_input d.dir || emits_in_scope scope b.right.name) bindings
-        (slice_get known.interfaces callee.name)
+    (slice_get known.interfaces callee.name)
 no_input_emitted known scope _ = true
 
 -- ---- runs
@@ -220,8 +224,8 @@ locals_differ _ = true
 abbrev pub all_names_differ : List (Part ℕ) → Bool
 all_names_differ parts =
     names_differ (map (λ (m : ModuleNode ℕ). m.name) (modules_of parts))
-        && names_differ (map (λ (s : Signature). s.name) (signatures_of parts))
-        && list_all declares_once parts && in_each_part (λ known p. locals_differ p.part) parts
+    && names_differ (map (λ (s : Signature). s.name) (signatures_of parts))
+    && list_all declares_once parts && in_each_part (λ known p. locals_differ p.part) parts
 
 -- ---- limits
 

@@ -84,7 +84,7 @@ delay_walk (delay.Immediate x) = here (Test x)
 abbrev pub locals_walk : {R : Type 0} → List SignalNode → Walk R → Walk R
 locals_walk signals block scope before =
     block (with_signals before.signals signals scope)
-        (record { signals = before.signals + length signals; traps = before.traps })
+    (record { signals = before.signals + length signals; traps = before.traps })
 
 abbrev pub trap_walk : {R : Type 0} → List ℕ → Walk R → Walk R
 trap_walk name block scope before =

@@ -47,12 +47,18 @@ interface_signals = interface_from 0
 
 -- in the block behind a `signal` list its signals are in scope, before those around it
 abbrev pub with_signals : ℕ → List SignalNode → InScope → InScope
-with_signals n signals scope = record { signals = local_signals n signals ++ scope.signals; traps =
-    scope.traps }
+with_signals n signals scope = record {
+  signals = local_signals n signals ++ scope.signals;
+  traps =
+      scope.traps;
+}
 
 abbrev pub with_trap : ℕ → List ℕ → InScope → InScope
-with_trap n name scope = record { signals = scope.signals; traps = record { place = n; name = name }
-    ∷ scope.traps }
+with_trap n name scope = record {
+  signals = scope.signals;
+  traps = record { place = n; name = name }
+      ∷ scope.traps;
+}
 
 -- the signal in scope that has this place
 abbrev pub signal_at : InScope → ℕ → Option Signal

@@ -62,8 +62,8 @@ fits_binding b = fits_name b.left && fits_name b.right
 abbrev pub fits_async : AsyncNode (List ℕ) → Bool
 fits_async a =
     if_there fits_name a.signal && fits_name a.body && list_all fits_expression a.args
-        && if_there is_written_text a.kill && if_there is_written_text a.suspend
-        && if_there is_written_text a.resume
+    && if_there is_written_text a.kill && if_there is_written_text a.suspend
+    && if_there is_written_text a.resume
 
 -- by one layer, with what its parts gave in their places
 abbrev pub statement_step : s.Statement-F (List ℕ) Bool Bool Bool → Bool

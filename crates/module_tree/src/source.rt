@@ -183,8 +183,11 @@ impl Model for Modules {
 
     ghost Value = { List (ATop (List ℕ)) };
 
-    ghost coded = { Prim.hlevel (codes, (node.the_row name.the_row).coded,
-        (block.the_row name.the_row).coded) };
+    ghost coded = { Prim.hlevel (
+      codes,
+      (node.the_row name.the_row).coded,
+      (block.the_row name.the_row).coded,
+    ) };
 
     ghost view = { λ m. m.parts };
 

@@ -12,9 +12,8 @@ ghost use Rattle.hh_term.specs.Views.{statement_of};
 
 use super::step;
 use hh_base::name::Name;
-use hh_base::value::{Kind, NoMemory, Pos, Value};
+use hh_base::value::{Dir, Kind, NoMemory, Pos, Value};
 use hh_term::mark::Marked;
-use hh_base::value::Dir;
 use hh_term::program::{Program, SignalDecl};
 use hh_term::term::{Term, TermNode};
 use host_expr::expr::{Expr, ExprNode};
