@@ -1,5 +1,5 @@
 -- The rules can be met: module M(in A, out O) { pause; if (A.now) { emit O; } } keeps them.
-use Rattle.std.proofs.Common.{◌≡◌, refl, sym, ap, subst, ◌∙◌, ℕ, ◌≤◌, Option, Some, None, List, [], ◌∷◌, arith}
+use Rattle.std.proofs.Common.{◌≡◌, refl, ap, ℕ, Some, None, List, [], ◌∷◌, arith}
 use Rattle.std.specs.Prelude.{◌≢◌}
 use Rattle.hh_base.specs.declared.value.Pos.{Pos}
 use Rattle.hh_base.specs.declared.value.Kind.TheVariants as kind
@@ -8,8 +8,8 @@ use Rattle.host_expr.specs.Expression.{Now}
 use Rattle.hh_base.specs.declared.value.Dir.{Dir}
 use Rattle.hh_base.specs.declared.value.Dir.TheVariants as dir
 use Rattle.hh_term.specs.declared.program.SignalDecl.{SignalDecl}
-use Rattle.hh_term.specs.Statement.{Statement, Nothing, Pause, Emit, If, Seq}
-use Rattle.hh_term.specs.Kernel.{Kernel, Body, AsyncSite}
+use Rattle.hh_term.specs.Statement.{Nothing, Pause, Emit, If, Seq}
+use Rattle.hh_term.specs.Kernel.{Kernel}
 use Rattle.hh_term.specs.IsProgram.{IsProgram}
 use Rattle.hh_term.proofs.FirstPrograms.{first_language_is_program}
 

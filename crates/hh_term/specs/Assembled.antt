@@ -16,7 +16,7 @@ site_of a =
     record {
       body = a.body;
       signal = a.signal;
-      args = map expression_of a.args.items;
+      args = map expression_of a.args;
       kill = a.kill;
       suspend = a.suspend;
       resume = a.resume;

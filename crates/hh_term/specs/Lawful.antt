@@ -4,7 +4,12 @@ use Rattle.std.specs.Prelude.{◌≡◌, ℕ, Bool, true, Some, List}
 use Rattle.hh_base.specs.declared.value.Value.{Value}
 use Rattle.host_expr.specs.Environment.{Env, unsolved}
 use Rattle.host_expr.specs.Knows.{EnvBelow}
+use Rattle.hh_term.specs.declared.term.Term.{Term}
+use Rattle.hh_term.specs.declared.program.Program.{Program}
 use Rattle.hh_term.specs.Statement.{Statement}
+use Rattle.hh_term.specs.Views.{statement_of}
+use Rattle.hh_term.specs.Placed.{unplaced, placed_term, unplaced_kernel}
+use Rattle.hh_term.specs.Viewed.{kernel_of, placed_of}
 use Rattle.hh_term.specs.Selection.{Control, Task, Start}
 use Rattle.hh_term.specs.Codes.{static_codes}
 use Rattle.hh_term.specs.Scopes.{LoopsWait}
@@ -53,3 +58,11 @@ abbrev pub StartedCodesAreStatic : Type 0
 StartedCodesAreStatic =
     (T : Table) (p : Statement) (i : Index) (E : Env) → LoopsWait p →
     (c : ℕ) → (must_can T p Start i E).codes c ≡ true → static_codes p c ≡ true
+
+-- Without its positions a term is the statement that it stands for.
+abbrev pub TermsAreUnplaced : Type 0
+TermsAreUnplaced = (t : Term) → unplaced (placed_term t) ≡ statement_of t
+
+-- So is a program.
+abbrev pub ProgramsAreUnplaced : Type 0
+ProgramsAreUnplaced = (p : Program) → unplaced_kernel (placed_of p) ≡ kernel_of p

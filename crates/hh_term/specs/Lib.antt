@@ -3,6 +3,7 @@ pub mod Selection
 pub mod Kernel
 pub mod Views
 pub mod Assembled
+pub mod Placed
 pub mod Viewed
 pub mod Codes
 pub mod Flags

@@ -9,6 +9,7 @@ use hh_base::name::Name;
 use hh_base::text::Text;
 use hh_base::value::{CombineWord, Dir, Kind, NoMemory, Pos, Value};
 use host_expr::expr::Expr;
+use sqlite_items::Items;
 use std::alloc::Global;
 use std::marker::Model;
 
@@ -98,7 +99,7 @@ pub struct BodyDecl {
 pub struct Site {
     pub body: u32,
     pub signal: Option<u32>,
-    pub args: Vec<Expr<u32>>,
+    pub args: Items<Expr<u32>>,
     pub kill: Option<Text>,
     pub suspend: Option<Text>,
     pub resume: Option<Text>,
@@ -151,7 +152,8 @@ impl Program {
     ghost use Rattle.hh_term.specs.Kernel.{Kernel};
     ghost use Rattle.hh_term.specs.Assembled.{body_of, site_of};
     ghost use Rattle.hh_term.specs.Views.{statement_of};
-    ghost use Rattle.hh_term.specs.Viewed.{kernel_of};
+    ghost use Rattle.hh_term.specs.Placed.{placed_term, placed_from};
+    ghost use Rattle.hh_term.specs.Viewed.{kernel_of, placed_of};
     ghost use Rattle.hh_term.specs.IsProgram.{interface_of};
 
     /// The program of these declarations and this statement. Takes no memory.
@@ -163,7 +165,8 @@ impl Program {
         term: Term,
     ) -> Program
         requires { ∥ IsProgram (kernel_from signals.items interface bodies.items sites.items term) ∥₁ }
-        ensures { kernel_of result ≡ kernel_from signals.items interface bodies.items sites.items term }
+        ensures kernel { kernel_of result ≡ kernel_from signals.items interface bodies.items sites.items term }
+        ensures placed { placed_of result ≡ placed_from signals.items interface bodies.items sites.items term }
     {
         Program {
             signals,
@@ -189,19 +192,22 @@ impl Program {
     }
 
     pub fn bodies(&self) -> &[BodyDecl]
-        ensures { map body_of result.now ≡ (kernel_of self.now).bodies }
+        ensures kernel { map body_of result.now ≡ (kernel_of self.now).bodies }
+        ensures placed { result.now ≡ (placed_of self.now).bodies }
     {
         &self.bodies
     }
 
     pub fn sites(&self) -> &[Site]
-        ensures { map site_of result.now ≡ (kernel_of self.now).sites }
+        ensures kernel { map site_of result.now ≡ (kernel_of self.now).sites }
+        ensures placed { result.now ≡ (placed_of self.now).sites }
     {
         &self.sites
     }
 
     pub fn term(&self) -> &Term
-        ensures { statement_of result.now ≡ (kernel_of self.now).statement }
+        ensures kernel { statement_of result.now ≡ (kernel_of self.now).statement }
+        ensures placed { placed_term result.now ≡ (placed_of self.now).statement }
     {
         &self.term
     }

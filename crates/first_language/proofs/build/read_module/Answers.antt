@@ -37,7 +37,7 @@ returns-clause-found c =
     let m = c.in_ok-module.module in
     let built : kernel_from c.in_ok-signals.signals.items c.len-interface.result c.new.result.items c.new-2.result.items c.in_ok-term.term ≡ kernel_of_text m =
     is_built m c.in_ok-signals.signals.items c.len-interface.result c.new.result.items c.new-2.result.items c.in_ok-term.term (c.in_ok-signals.ensures ∙ ap (map signal_of) c.as_slice.ensures) c.len-interface.ensures c.new.ensures.items c.new-2.ensures.items c.in_ok-term.ensures in
-    record { tree = m; has_tree = c.in_ok-module.ensures.found; is_program = c.new-3.ensures ∙ built }
+    record { tree = m; has_tree = c.in_ok-module.ensures.found; is_program = c.new-3.ensures.kernel ∙ built }
 
 pub returns-clause-only : goal.returns-clause-only
 returns-clause-only c = λ program s.
@@ -45,11 +45,11 @@ returns-clause-only c = λ program s.
     let built : kernel_from c.in_ok-signals.signals.items c.len-interface.result c.new.result.items c.new-2.result.items c.in_ok-term.term ≡ kernel_of_text m =
     is_built m c.in_ok-signals.signals.items c.len-interface.result c.new.result.items c.new-2.result.items c.in_ok-term.term (c.in_ok-signals.ensures ∙ ap (map signal_of) c.as_slice.ensures) c.len-interface.ensures c.new.ensures.items c.new-2.ensures.items c.in_ok-term.ensures in
     let same = c.in_ok-module.ensures.only s.tree s.has_tree in
-    c.new-3.ensures ∙ built ∙ ap kernel_of_text same ∙ sym s.is_program
+    c.new-3.ensures.kernel ∙ built ∙ ap kernel_of_text same ∙ sym s.is_program
 
 pub returns-clause-first : goal.returns-clause-first
 returns-clause-first c =
     let m = c.in_ok-module.module in
     let built : kernel_from c.in_ok-signals.signals.items c.len-interface.result c.new.result.items c.new-2.result.items c.in_ok-term.term ≡ kernel_of_text m =
     is_built m c.in_ok-signals.signals.items c.len-interface.result c.new.result.items c.new-2.result.items c.in_ok-term.term (c.in_ok-signals.ensures ∙ ap (map signal_of) c.as_slice.ensures) c.len-interface.ensures c.new.ensures.items c.new-2.ensures.items c.in_ok-term.ensures in
-    subst IsFirstLanguage (sym (c.new-3.ensures ∙ built)) (is_of_first_language c.args.text.now m c.in_ok-module.ensures.found)
+    subst IsFirstLanguage (sym (c.new-3.ensures.kernel ∙ built)) (is_of_first_language c.args.text.now m c.in_ok-module.ensures.found)
