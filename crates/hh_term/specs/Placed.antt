@@ -1,4 +1,5 @@
--- Statements and programs with where each of their nodes stands in the input. What the semantics goes over is what is left
+-- Statements and programs with where each of their nodes stands in the input. What the semantics goes
+-- over is what is left
 -- without the positions. (This project's own.)
 use Rattle.std.specs.Prelude.{ℕ, Option, List, map}
 use Rattle.hh_base.specs.declared.value.Pos.{Pos}
@@ -13,9 +14,10 @@ use Rattle.hh_term.specs.declared.term.TermNode.TheVariants as term
 use Rattle.hh_term.specs.Statement as statement
 use Rattle.hh_term.specs.Statement.{Statement}
 use Rattle.hh_term.specs.Kernel.{Kernel}
-use Rattle.hh_term.specs.Assembled.{body_of, site_of}
+use Rattle.hh_term.specs.Views.{body_of, site_of}
 
--- a kernel statement at its position; its expressions are those of the code, whose nodes have positions of their own
+-- a kernel statement at its position; its expressions are those of the code, whose nodes have positions
+-- of their own
 pub data Placed : Type 0 where
   Nothing : (at : Pos) → Placed
   Pause : (at : Pos) → Placed
@@ -84,4 +86,10 @@ unplaced_kernel P =
 -- what declarations and a term of the code make
 abbrev pub placed_from : List SignalDecl → ℕ → List BodyDecl → List Site → Term → PlacedKernel
 placed_from signals interface bodies sites term =
-    record { signals = signals; interface = interface; bodies = bodies; sites = sites; statement = placed_term term }
+    record {
+      signals = signals;
+      interface = interface;
+      bodies = bodies;
+      sites = sites;
+      statement = placed_term term;
+    }

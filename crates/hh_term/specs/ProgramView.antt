@@ -1,7 +1,7 @@
 -- The kernel program that a `Program` of the code stands for, and the same with its positions.
 use Rattle.hh_term.specs.declared.program.Program.{Program}
 use Rattle.hh_term.specs.Kernel.{Kernel}
-use Rattle.hh_term.specs.Assembled.{kernel_from}
+use Rattle.hh_term.specs.Views.{kernel_from}
 use Rattle.hh_term.specs.Placed.{PlacedKernel, placed_from}
 
 abbrev pub kernel_of : Program → Kernel
