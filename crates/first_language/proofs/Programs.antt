@@ -13,7 +13,7 @@ use Rattle.hh_term.specs.declared.program.SignalDecl.{SignalDecl}
 use Rattle.hh_term.specs.declared.program.BodyDecl.{BodyDecl}
 use Rattle.hh_term.specs.declared.program.Site.{Site}
 use Rattle.hh_term.specs.declared.term.Term.{Term}
-use Rattle.hh_term.specs.Assembled.{body_of, site_of, kernel_from}
+use Rattle.hh_term.specs.Views.{body_of, site_of, kernel_from}
 use Rattle.hh_term.specs.Views.{statement_of}
 use Rattle.hh_term.specs.Statement as Kernel
 use Rattle.hh_term.specs.Kernel as program

@@ -1,7 +1,12 @@
 -- Statements: how a list of statements is one, and how large a statement is. After Berry, The Constructive Semantics of Pure Esterel.
 use Rattle.std.specs.Prelude.{◌≡◌, ℕ, zero, suc, ◌+◌, ◌-◌, ◌/◌, Option, Some, None, List, [], ◌∷◌, length, take, drop}
 use Rattle.host_expr.specs.Expression.{Now}
+use Rattle.hh_base.specs.declared.value.Pos.{Pos}
+use Rattle.host_expr.specs.declared.expr.Expr.{Expr, roll-Expr}
+use Rattle.host_expr.specs.declared.expr.ExprNode.TheVariants as expr
 use Rattle.hh_term.specs.Statement as Kernel
+use Rattle.hh_term.specs.Placed as placed
+use Rattle.hh_term.specs.Placed.{Placed}
 use Rattle.hh_term.specs.Sizes as Sizes
 use Rattle.first_language.specs.declared.tree.Statement.{Statement, roll-Statement}
 use Rattle.first_language.specs.declared.tree.StatementNode.{StatementNode}
@@ -53,6 +58,24 @@ statement_part t = t.node
 -- the kernel statement of a tree
 abbrev pub kernel_statement : Statement → Kernel.Statement
 kernel_statement = fold-Statement Kernel.Statement Kernel.Statement node_statement statement_part
+
+-- the test of a signal stands at its name
+abbrev pub test_at : ℕ → ℕ → Expr ℕ
+test_at pos signal = roll-Expr ℕ (record { pos = record { 0 = pos }; node = expr.Now signal })
+
+-- the same with positions: each node stands at that of its statement
+abbrev pub placed_node : f.StatementNode-F (ℕ → Placed) Placed → ℕ → Placed
+placed_node f.Nothing pos = placed.Nothing (record { 0 = pos })
+placed_node f.Pause pos = placed.Pause (record { 0 = pos })
+placed_node (f.Emit s) pos = placed.Emit (record { 0 = pos }) s None
+placed_node (f.If p s a b) pos = placed.If (record { 0 = pos }) (test_at p s) a b
+placed_node (f.Seq a b) pos = placed.Seq (record { 0 = pos }) a b
+
+abbrev pub placed_part : f.Statement-F (ℕ → Placed) Placed → Placed
+placed_part t = t.node t.pos
+
+abbrev pub placed_statement : Statement → Placed
+placed_statement = fold-Statement (ℕ → Placed) Placed placed_node placed_part
 
 -- each node counts one, and the test of a choice one more
 abbrev pub nodes_in : Kernel.Statement → ℕ

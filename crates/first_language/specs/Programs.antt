@@ -8,12 +8,13 @@ use Rattle.hh_base.specs.declared.value.Dir.TheVariants as dir
 use Rattle.hh_term.specs.declared.program.SignalDecl.{SignalDecl}
 use Rattle.hh_term.specs.declared.program.Program.{Program}
 use Rattle.hh_term.specs.Kernel.{Kernel}
-use Rattle.hh_term.specs.Viewed.{kernel_of}
+use Rattle.hh_term.specs.Placed.{Placed}
+use Rattle.hh_term.specs.ProgramView.{kernel_of}
 use Rattle.first_language.specs.declared.tree.Declaration.{Declaration}
 use Rattle.first_language.specs.declared.tree.ModuleText.{ModuleText}
 use Rattle.first_language.specs.declared.refusal.ReadRefusal.{ReadRefusal}
 use Rattle.first_language.specs.declared.refusal.ReadRefusal.TheVariants.{NoMemory}
-use Rattle.first_language.specs.Kernel.{kernel_statement}
+use Rattle.first_language.specs.Kernel.{kernel_statement, placed_statement}
 use Rattle.first_language.specs.Grammar.{HasTree}
 
 abbrev pub direction_of : Bool → Dir
@@ -31,6 +32,12 @@ pub record Spells (text : List ℕ) (program : Kernel) : Type 0 where
   pub tree : ModuleText
   pub has_tree : HasTree text tree
   pub is_program : program ≡ kernel_of_text tree
+
+-- each node stands where the text has its statement
+pub record IsPlacedBy (text : List ℕ) (statement : Placed) : Type 0 where
+  pub tree : ModuleText
+  pub has_tree : HasTree text tree
+  pub is_statement : statement ≡ placed_statement tree.statement
 
 -- a program that a text spells is the one that was read, unless memory ran out
 abbrev pub Reading : Kernel → Result Program ReadRefusal → Type 0

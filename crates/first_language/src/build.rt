@@ -1,14 +1,17 @@
 //! The kernel program of a text.
 
 ghost use Rattle.std.specs.Prelude.{◌≡◌, IfOk, map};
+ghost use Rattle.hh_base.specs.declared.value.Pos.{Pos as APos};
 ghost use Rattle.hh_term.specs.FirstLanguage.{IsFirstLanguage};
 ghost use Rattle.hh_term.specs.Kernel.{Kernel};
 ghost use Rattle.host_expr.specs.Expression.{expression_of, Now};
 ghost use Rattle.hh_term.specs.Statement.{If, Seq};
 ghost use Rattle.hh_term.specs.Views.{node_statement, statement_of};
-ghost use Rattle.hh_term.specs.Viewed.{kernel_of};
-ghost use Rattle.first_language.specs.Kernel.{kernel_statement};
-ghost use Rattle.first_language.specs.Programs.{direction_of, signal_of, Spells, Reading};
+ghost use Rattle.hh_term.specs.Placed.{placed_node, placed_term};
+ghost use Rattle.hh_term.specs.Placed as placed;
+ghost use Rattle.hh_term.specs.ProgramView.{kernel_of, placed_of};
+ghost use Rattle.first_language.specs.Kernel.{kernel_statement, placed_statement, test_at};
+ghost use Rattle.first_language.specs.Programs.{direction_of, signal_of, Spells, IsPlacedBy, Reading};
 
 use crate::reader::read_text;
 use crate::refusal::ReadRefusal;
@@ -45,7 +48,8 @@ fn signals(alloc: Global, declarations: &[Declaration]) -> Result<Vec<SignalDecl
 
 /// A test stands at its name.
 fn test(pos: u32, signal: u32) -> Expr<u32>
-    ensures { expression_of result ≡ Now signal }
+    ensures kernel { expression_of result ≡ Now signal }
+    ensures placed { result ≡ test_at pos signal }
 {
     Expr {
         pos: Pos(pos),
@@ -54,14 +58,16 @@ fn test(pos: u32, signal: u32) -> Expr<u32>
 }
 
 fn choice(alloc: Global, test: Expr<u32>, then: Term, other: Term) -> Result<TermNode, NoMemory>
-    ensures { IfOk result (λ n. node_statement n ≡ If (expression_of test) (statement_of then) (statement_of other)) }
+    ensures kernel { IfOk result (λ n. node_statement n ≡ If (expression_of test) (statement_of then) (statement_of other)) }
+    ensures placed { IfOk result (λ n. (at : APos) → placed_node at n ≡ placed.If at test (placed_term then) (placed_term other)) }
 {
     let then = Box::new(alloc, then)?;
     Ok(TermNode::If(test, then, Box::new(alloc, other)?))
 }
 
 fn sequence(alloc: Global, first: Term, second: Term) -> Result<TermNode, NoMemory>
-    ensures { IfOk result (λ n. node_statement n ≡ Seq (statement_of first) (statement_of second)) }
+    ensures kernel { IfOk result (λ n. node_statement n ≡ Seq (statement_of first) (statement_of second)) }
+    ensures placed { IfOk result (λ n. (at : APos) → placed_node at n ≡ placed.Seq at (placed_term first) (placed_term second)) }
 {
     let first = Box::new(alloc, first)?;
     Ok(TermNode::Seq(first, Box::new(alloc, second)?))
@@ -69,7 +75,8 @@ fn sequence(alloc: Global, first: Term, second: Term) -> Result<TermNode, NoMemo
 
 /// Each node stands at the position of its statement.
 fn term(alloc: Global, statement: &Statement) -> Result<Term, NoMemory>
-    ensures { IfOk result (λ t. statement_of t ≡ kernel_statement statement.now) }
+    ensures kernel { IfOk result (λ t. statement_of t ≡ kernel_statement statement.now) }
+    ensures placed { IfOk result (λ t. placed_term t ≡ placed_statement statement.now) }
 {
     let node = match &statement.node {
         StatementNode::Nothing => TermNode::Nothing,
@@ -98,6 +105,7 @@ fn term(alloc: Global, statement: &Statement) -> Result<Term, NoMemory>
 pub fn read_module(alloc: Global, text: &[u8]) -> Result<Program, ReadRefusal>
     // What is read is spelled by the text.
     ensures found { IfOk result (λ p. Spells text.now (kernel_of p)) }
+    ensures placed { IfOk result (λ p. IsPlacedBy text.now (placed_of p).statement) }
     // What the text spells is read, unless memory runs out.
     ensures only { (program : Kernel) → Spells text.now program → Reading program result }
     ensures not_built { result ≡ Err ReadRefusal.NotBuilt → (program : Kernel) → ¬ Spells text.now program }

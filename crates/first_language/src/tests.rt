@@ -127,8 +127,8 @@ fn copies_the_interface(rt: HostRuntime) {
     let program = program.expect(&rt, "a value");
     let interface = program.interface(alloc).expect(&rt, "a value");
     let names = ["A", "B"];
-    assert!(rt; interface.signals().len() == names.len());
-    for (signal, name) in interface.signals().iter().zip(names) {
+    assert!(rt; interface.as_slice().len() == names.len());
+    for (signal, name) in interface.as_slice().iter().zip(names) {
         let copy = signal.copy(alloc).expect(&rt, "a value");
         let found = copy.name.expect(&rt, "a value");
         assert!(rt; found.as_str() == name);

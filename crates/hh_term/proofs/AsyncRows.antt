@@ -1,4 +1,5 @@
--- Worked programs with async, suspension and faults: what each reaction gives and leaves, by computation from the definitions alone.
+-- Worked programs with async, suspension and faults: what each reaction gives and leaves, by computation
+-- from the definitions alone.
 use Rattle.std.proofs.Common.{◌≡◌, refl, ℕ, Bool, true, false, Option, Some, None, List, [], ◌∷◌}
 use Rattle.std.specs.Prelude.{pos}
 use Rattle.hh_base.specs.declared.value.Kind.TheVariants as kind
@@ -10,12 +11,15 @@ use Rattle.host_expr.specs.declared.expr.Op.TheVariants.{Add, Div}
 use Rattle.host_expr.specs.declared.expr.Rel.TheVariants.{Eq}
 use Rattle.hh_base.specs.declared.value.Dir.TheVariants as dir
 use Rattle.host_expr.specs.Expression.{Expression, Int, Now, Pre, PreVal, Arg, Arith, Compare}
-use Rattle.hh_term.specs.Statement.{Nothing, Pause, Emit, If, Suspend, Seq, Par, Loop, Trap, Exit, Local, Async}
-use Rattle.hh_term.specs.Selection.{Selection, AtPause, AtAsync, First, Second, Both, Inside, Control, Fresh, At}
+use Rattle.hh_term.specs.Statement.{Nothing, Pause, Emit, If, Suspend, Seq, Par, Loop, Trap, Exit, Local}
+use Rattle.hh_term.specs.Statement.{Async}
+use Rattle.hh_term.specs.Selection.{Selection, AtPause, AtAsync, First, Second, Both, Inside, Control}
+use Rattle.hh_term.specs.Selection.{Fresh, At}
 use Rattle.hh_term.specs.Kernel.{Kernel, AsyncSite, Body}
 use Rattle.hh_term.specs.Touches.{Touch}
 use Rattle.hh_term.specs.Reaction.{Outcome, Undecided, Doubled, Faulted, Completes, reaction, first_lasts}
-use Rattle.hh_term.proofs.Runs.{Refuses, pauses, ends, is_over, runs, runs_from, input, output, number, hidden, program, emit, emit_number, position, on, is, halt, abort}
+use Rattle.hh_term.proofs.Runs.{Refuses, pauses, ends, is_over, runs, runs_from, input, output, number}
+use Rattle.hh_term.proofs.Runs.{hidden, program, emit, emit_number, position, on, is, halt, abort}
 
 -- ---- what a reaction leaves
 
@@ -36,7 +40,13 @@ next_reaction K m given = reaction K (At m) (first_lasts K) given 1
 
 -- body think(a: int): int { a + 1 }, and its one site: async (V) call think(4)
 abbrev think : Body
-think = record { name = []; params = kind.Int ∷ []; answer = kind.Int; expr = Some (Arith (position 26) Add (Arg 0) (Int (pos 1))); pos = position 5 }
+think = record {
+  name = [];
+  params = kind.Int ∷ [];
+  answer = kind.Int;
+  expr = Some (Arith (position 26) Add (Arg 0) (Int (pos 1)));
+  pos = position 5;
+}
 
 abbrev call : ℕ → Expression → AsyncSite
 call v e = record { body = 0; signal = Some v; args = e ∷ []; kill = None; suspend = None; resume = None }
@@ -59,13 +69,43 @@ last n = record { value = value.Int (pos n); last = true }
 
 -- the instance with this id of a site: started and running on, ended, held and running on
 abbrev new_touch : ℕ → ℕ → Touch
-new_touch n id = record { site = n; id = id; started = Some (value.Int (pos 4) ∷ []); used = false; ended = false; held = false; resumed = false; runs_after = true }
+new_touch n id =
+    record {
+      site = n;
+      id = id;
+      started = Some (value.Int (pos 4) ∷ []);
+      used = false;
+      ended = false;
+      held = false;
+      resumed = false;
+      runs_after = true;
+    }
 
 abbrev end_touch : ℕ → ℕ → Touch
-end_touch n id = record { site = n; id = id; started = None; used = false; ended = true; held = false; resumed = true; runs_after = false }
+end_touch n id =
+    record {
+      site = n;
+      id = id;
+      started = None;
+      used = false;
+      ended = true;
+      held = false;
+      resumed = true;
+      runs_after = false;
+    }
 
 abbrev hold_touch : ℕ → ℕ → Touch
-hold_touch n id = record { site = n; id = id; started = None; used = false; ended = false; held = true; resumed = false; runs_after = true }
+hold_touch n id =
+    record {
+      site = n;
+      id = id;
+      started = None;
+      used = false;
+      ended = false;
+      held = true;
+      resumed = false;
+      runs_after = true;
+    }
 
 -- ---- one instance, its parts and its end
 
@@ -81,7 +121,8 @@ is_started = refl
 
 -- one answer each reaction, the last one ends it
 parts_and_end :
-    runs_from one_call (At (instance 1 (part 5 ∷ part 6 ∷ last 7 ∷ []) false)) (first_lasts one_call) ([] ∷ [] ∷ [] ∷ [] ∷ [])
+    runs_from one_call (At (instance 1 (part 5 ∷ part 6 ∷ last 7 ∷ []) false)) (first_lasts one_call)
+    ([] ∷ [] ∷ [] ∷ [] ∷ [])
     ≡ pauses (is 0 5 ∷ []) ∷ pauses (is 0 6 ∷ []) ∷ ends (is 0 7 ∷ []) ∷ is_over [] ∷ []
 parts_and_end = refl
 
@@ -106,14 +147,21 @@ is_ended = refl
 -- module M(out V: int, out W: int) { fork { async (V) call think(4); } par { async (W) call think(4); } }
 -- Ids go in the order of the sites.
 two_calls :
-    touches_left (first_reaction (with_sites (call 0 (Int (pos 4)) ∷ call 1 (Int (pos 4)) ∷ []) (program (number None 50 ∷ number None 57 ∷ []) [] (Par (Async 0) (Async 1)))) [])
+    touches_left
+    (first_reaction
+    (with_sites (call 0 (Int (pos 4)) ∷ call 1 (Int (pos 4)) ∷ [])
+    (program (number None 50 ∷ number None 57 ∷ []) [] (Par (Async 0) (Async 1)))) [])
     ≡ new_touch 0 1 ∷ new_touch 1 2 ∷ []
 two_calls = refl
 
 -- module M(out V: int, out W: int) { loop { async (V) call think(4); async (W) call think(4); } }
 -- The second ends and the first starts anew: touches stand in the order of the sites.
 one_after_the_other :
-    touches_left (next_reaction (with_sites (call 0 (Int (pos 4)) ∷ call 1 (Int (pos 4)) ∷ []) (program (number None 50 ∷ number None 57 ∷ []) [] (Loop (Seq (Async 0) (Async 1))))) (Inside (Second (instance 1 (last 7 ∷ []) false))) [])
+    touches_left
+    (next_reaction
+    (with_sites (call 0 (Int (pos 4)) ∷ call 1 (Int (pos 4)) ∷ [])
+    (program (number None 50 ∷ number None 57 ∷ []) [] (Loop (Seq (Async 0) (Async 1)))))
+    (Inside (Second (instance 1 (last 7 ∷ []) false))) [])
     ≡ new_touch 0 2 ∷ end_touch 1 1 ∷ []
 one_after_the_other = refl
 
@@ -121,7 +169,9 @@ one_after_the_other = refl
 
 -- module M(in A, out V: int) { suspend (A.now) { async (V) call think(4); } }
 abbrev suspended_call : Kernel
-suspended_call = with_site (call 1 (Int (pos 4))) (program (input 47 ∷ number None 54 ∷ []) [] (Suspend (Now 0) (Async 0)))
+suspended_call =
+    with_site (call 1 (Int (pos 4)))
+    (program (input 47 ∷ number None 54 ∷ []) [] (Suspend (Now 0) (Async 0)))
 
 -- held with its queue, and the flag is set
 is_held :
@@ -136,7 +186,9 @@ held_touch = refl
 
 -- module M(in R, out V: int) { do { async (V) call think(4); } every (R.now); }
 abbrev repeated_call : Kernel
-repeated_call = with_site (call 1 (Int (pos 4))) (program (input 47 ∷ number None 54 ∷ []) [] (Loop (abort (Now 0) (Seq (Async 0) halt))))
+repeated_call =
+    with_site (call 1 (Int (pos 4)))
+    (program (input 47 ∷ number None 54 ∷ []) [] (Loop (abort (Now 0) (Seq (Async 0) halt))))
 
 abbrev running : ℕ → Selection
 running n = Inside (Inside (Both (First (Inside (First (instance n [] false)))) (Inside (First AtPause))))
@@ -153,34 +205,45 @@ restart_touches = refl
 -- module M(out V: int) { trap T { fork { async (V) call think(4); } par { break T; } } }
 -- An instance that is started and killed in one reaction uses no id.
 started_and_killed :
-    touches_left (first_reaction (with_site (call 0 (Int (pos 4))) (program (number None 50 ∷ []) [] (Trap (Par (Async 0) (Exit 0))))) [])
+    touches_left
+    (first_reaction
+    (with_site (call 0 (Int (pos 4)))
+    (program (number None 50 ∷ []) [] (Trap (Par (Async 0) (Exit 0))))) [])
     ≡ record (new_touch 0 0) { runs_after = false } ∷ []
 started_and_killed = refl
 
 -- The fault of its argument counts all the same.
 killed_with_a_fault :
-    first_reaction (with_site (call 0 (Arith (position 9) Div (Int (pos 1)) (Int (pos 0)))) (program (number None 50 ∷ []) [] (Trap (Par (Async 0) (Exit 0))))) []
+    first_reaction
+    (with_site (call 0 (Arith (position 9) Div (Int (pos 1)) (Int (pos 0))))
+    (program (number None 50 ∷ []) [] (Trap (Par (Async 0) (Exit 0))))) []
     ≡ Faulted (position 9) Divide
 killed_with_a_fault = refl
 
 -- module M(in A, out X) { suspend (A.now) { signal S { emit S; pause; if (S.pre) { emit X; } } } }
 -- A local signal is frozen while it is suspended: its previous status is that of its last active reaction.
 frozen :
-    runs (program (input 12 ∷ output 19 ∷ []) (hidden 50 ∷ []) (Suspend (Now 0) (Local 2 (Seq (Seq (emit 2) Pause) (If (Pre 2) (emit 1) Nothing))))) ([] ∷ (on 0 ∷ []) ∷ [] ∷ [])
+    runs (program (input 12 ∷ output 19 ∷ []) (hidden 50 ∷ [])
+    (Suspend (Now 0) (Local 2 (Seq (Seq (emit 2) Pause) (If (Pre 2) (emit 1) Nothing)))))
+    ([] ∷ (on 0 ∷ []) ∷ [] ∷ [])
     ≡ pauses [] ∷ pauses [] ∷ ends (on 1 ∷ []) ∷ []
 frozen = refl
 
 -- module M(out X) { loop { signal S { if (S.pre) { emit X; } emit S; pause; } } }
 -- At each entry of its scope a local signal begins anew.
 begins_anew :
-    runs (program (output 13 ∷ []) (hidden 32 ∷ []) (Loop (Local 1 (Seq (Seq (If (Pre 1) (emit 0) Nothing) (emit 1)) Pause)))) ([] ∷ [] ∷ [])
+    runs (program (output 13 ∷ []) (hidden 32 ∷ [])
+    (Loop (Local 1 (Seq (Seq (If (Pre 1) (emit 0) Nothing) (emit 1)) Pause)))) ([] ∷ [] ∷ [])
     ≡ pauses [] ∷ pauses [] ∷ []
 begins_anew = refl
 
 -- module M(out X) { signal S: int { emit S(4); pause; if (S.preval == 4) { emit X; } } }
 -- Its mark keeps the value of its last reaction.
 keeps_its_value :
-    runs (program (output 13 ∷ []) (record (number None 26) { dir = dir.Local } ∷ []) (Local 1 (Seq (Seq (emit_number 1 4) Pause) (If (Compare Eq (PreVal 1) (Int (pos 4))) (emit 0) Nothing)))) ([] ∷ [] ∷ [])
+    runs (program (output 13 ∷ []) (record (number None 26) { dir = dir.Local } ∷ [])
+    (Local 1
+    (Seq (Seq (emit_number 1 4) Pause) (If (Compare Eq (PreVal 1) (Int (pos 4))) (emit 0) Nothing))))
+    ([] ∷ [] ∷ [])
     ≡ pauses [] ∷ ends (on 0 ∷ []) ∷ []
 keeps_its_value = refl
 
@@ -194,27 +257,36 @@ left_for_good = refl
 -- module M(inout V: int) { emit V(1); }
 -- A given input is one more emission.
 given_and_emitted :
-    runs (program (record (number None 15) { dir = dir.Both } ∷ []) [] (emit_number 0 1)) ((is 0 2 ∷ []) ∷ [] ∷ [])
+    runs (program (record (number None 15) { dir = dir.Both } ∷ []) [] (emit_number 0 1))
+    ((is 0 2 ∷ []) ∷ [] ∷ [])
     ≡ Refuses (Doubled 0) ∷ ends (is 0 1 ∷ []) ∷ []
 given_and_emitted = refl
 
 -- module M(out X) { if (1 / 0 == 1) {} else { emit X; } }
 fault_of_a_test :
-    runs (program (output 13 ∷ []) [] (If (Compare Eq (Arith (position 24) Div (Int (pos 1)) (Int (pos 0))) (Int (pos 1))) Nothing (emit 0))) ([] ∷ [])
+    runs (program (output 13 ∷ []) []
+    (If (Compare Eq (Arith (position 24) Div (Int (pos 1)) (Int (pos 0))) (Int (pos 1))) Nothing
+    (emit 0))) ([] ∷ [])
     ≡ Refuses (Faulted (position 24) Divide) ∷ []
 fault_of_a_test = refl
 
 -- module M() { suspend (1 / 0 == 1) { pause; } }
 -- A guard is met at the resumption alone.
 fault_of_a_guard :
-    runs (program [] [] (Suspend (Compare Eq (Arith (position 24) Div (Int (pos 1)) (Int (pos 0))) (Int (pos 1))) Pause)) ([] ∷ [] ∷ [])
+    runs (program [] []
+    (Suspend (Compare Eq (Arith (position 24) Div (Int (pos 1)) (Int (pos 0))) (Int (pos 1))) Pause))
+    ([] ∷ [] ∷ [])
     ≡ pauses [] ∷ Refuses (Faulted (position 24) Divide) ∷ []
 fault_of_a_guard = refl
 
 -- module M(in A, out V: int) { loop { if (A.now) { emit V(1 / 0); } pause; } }
 -- A refused reaction changes nothing.
 fault_changes_nothing :
-    runs (program (input 12 ∷ number None 19 ∷ []) [] (Loop (Seq (If (Now 0) (Emit 1 (Some (Arith (position 58) Div (Int (pos 1)) (Int (pos 0))))) Nothing) Pause))) ([] ∷ (on 0 ∷ []) ∷ [] ∷ [])
+    runs (program (input 12 ∷ number None 19 ∷ []) []
+    (Loop (Seq
+    (If (Now 0)
+    (Emit 1 (Some (Arith (position 58) Div (Int (pos 1)) (Int (pos 0))))) Nothing) Pause)))
+    ([] ∷ (on 0 ∷ []) ∷ [] ∷ [])
     ≡ pauses [] ∷ Refuses (Faulted (position 58) Divide) ∷ pauses [] ∷ []
 fault_changes_nothing = refl
 
@@ -234,9 +306,12 @@ least_position_second = refl
 first_kind : runs (faulty 40 40) ([] ∷ []) ≡ Refuses (Faulted (position 40) Divide) ∷ []
 first_kind = refl
 
--- two emissions of V at 13 and of W at 20, without combine words: V is named, also where the declarations are the other way round
+-- two emissions of V at 13 and of W at 20, without combine words: V is named, also where the declarations
+-- are the other way round
 abbrev doubles : ℕ → ℕ → Kernel
-doubles m n = program (number None m ∷ number None n ∷ []) [] (Seq (Seq (emit_number 0 1) (emit_number 0 2)) (Seq (emit_number 1 1) (emit_number 1 2)))
+doubles m n =
+    program (number None m ∷ number None n ∷ []) []
+    (Seq (Seq (emit_number 0 1) (emit_number 0 2)) (Seq (emit_number 1 1) (emit_number 1 2)))
 
 least_declaration : runs (doubles 13 20) ([] ∷ []) ≡ Refuses (Doubled 0) ∷ []
 least_declaration = refl
@@ -247,6 +322,8 @@ least_declaration_second = refl
 -- module M(in A) { loop { if (A.now) { signal S { if (S.now) {} else { emit S; } } } pause; } }
 -- What an undecided local signal refuses is forgotten in the next reaction.
 causality_changes_nothing :
-    runs (program (input 12 ∷ []) (hidden 44 ∷ []) (Loop (Seq (If (Now 0) (Local 1 (If (Now 1) Nothing (emit 1))) Nothing) Pause))) ([] ∷ (on 0 ∷ []) ∷ [] ∷ [])
+    runs (program (input 12 ∷ []) (hidden 44 ∷ [])
+    (Loop (Seq (If (Now 0) (Local 1 (If (Now 1) Nothing (emit 1))) Nothing) Pause)))
+    ([] ∷ (on 0 ∷ []) ∷ [] ∷ [])
     ≡ pauses [] ∷ Refuses (Undecided []) ∷ pauses [] ∷ []
 causality_changes_nothing = refl

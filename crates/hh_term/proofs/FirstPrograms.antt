@@ -1,18 +1,21 @@
 -- A program of the first language is a program.
-use Rattle.std.proofs.Common.{◌≡◌, sym, ap, subst, ◌∙◌, ℕ, ◌≤◌, Option, Some, None, List, [], ◌∷◌, length, take, drop, arith}
+use Rattle.std.proofs.Common.{◌≡◌, sym, ap, subst, ◌∙◌, ℕ, ◌≤◌, Option, Some, None, List, [], ◌∷◌, length}
+use Rattle.std.proofs.Common.{take, drop, arith}
 use Rattle.std.specs.Prelude.{◌≢◌, ◌-◌}
 use Rattle.std.proofs.Math.Seq.{take-length, drop-length}
 use Rattle.std.specs.List.{AllByRecursion, range_with_len}
 use Rattle.hh_base.specs.Value.{kind_of}
 use Rattle.hh_base.specs.declared.value.Dir.{Dir}
 use Rattle.hh_base.specs.declared.value.Dir.TheVariants as dir
+use Rattle.hh_term.specs.declared.limits.TheConstants.{SIZE_LIMIT, HEIGHT_LIMIT, SITE_LIMIT}
 use Rattle.hh_term.specs.declared.program.SignalDecl.{SignalDecl}
 use Rattle.hh_term.specs.Kernel.{Kernel}
 use Rattle.hh_term.specs.FirstLanguage.{IsFirstLanguage, IsFirstSignal, IsOneWay}
 use Rattle.hh_term.specs.Sizes.{size_of, height_of}
 use Rattle.hh_term.specs.Fits.{WordFits, IsNamed, SignalFits, BodyIsFit, SiteFits}
 use Rattle.hh_term.specs.IsProgram.{IsProgram, NamesDiffer, NamesGoByPosition}
-use Rattle.hh_term.proofs.FirstStatements.{first_of, loops_wait, exits_fit, no_locals, no_sites, no_traps, same_size, statement_fits, uses_in_scope}
+use Rattle.hh_term.proofs.FirstStatements.{first_of, loops_wait, exits_fit, no_locals, no_sites, no_traps}
+use Rattle.hh_term.proofs.FirstStatements.{same_size, statement_fits, uses_in_scope}
 
 not_local : (d : Dir) → IsOneWay d → d ≢ dir.Local
 not_local dir.Input h = λ e. absurd (cc)
@@ -20,11 +23,13 @@ not_local dir.Output h = λ e. absurd (cc)
 not_local dir.Both h = absurd h
 not_local dir.Local h = absurd h
 
-none_local : (signals : List SignalDecl) → AllByRecursion IsFirstSignal signals → AllByRecursion (λ d. d.dir ≢ dir.Local) signals
+none_local : (signals : List SignalDecl) → AllByRecursion IsFirstSignal signals
+    → AllByRecursion (λ d. d.dir ≢ dir.Local) signals
 none_local [] a = tt
 none_local (d ∷ ds) a = (not_local d.dir a.0.one_way, none_local ds a.1)
 
-signals_fit : (signals : List SignalDecl) → AllByRecursion IsFirstSignal signals → AllByRecursion SignalFits signals
+signals_fit : (signals : List SignalDecl) → AllByRecursion IsFirstSignal signals
+    → AllByRecursion SignalFits signals
 signals_fit [] a = tt
 signals_fit (d ∷ ds) a = (fits d a.0, signals_fit ds a.1)
   where
@@ -46,8 +51,8 @@ pub first_language_is_program :
     → IsFirstLanguage K
     → NamesDiffer K.signals
     → NamesGoByPosition K.signals
-    → size_of K K.statement ≤ 65536
-    → height_of K.statement ≤ 1024
+    → size_of K K.statement ≤ SIZE_LIMIT
+    → height_of K.statement ≤ HEIGHT_LIMIT
     → IsProgram K
 first_language_is_program K h names places size height =
     let f = first_of K.signals K.statement h.statement in
@@ -72,7 +77,7 @@ first_language_is_program K h names places size height =
             copied = omega (arith, same_size K f);
             height = height;
             traps = omega (arith, no_traps f);
-            sites = subst (λ x. length x ≤ 1024) (sym h.sites) (omega arith);
+            sites = subst (λ x. length x ≤ SITE_LIMIT) (sym h.sites) (omega arith);
           };
     }
   where

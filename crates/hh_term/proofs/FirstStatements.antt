@@ -1,14 +1,17 @@
 -- The statements of the first language keep the rules of a program's statement.
-use Rattle.std.proofs.Common.{◌≡◌, refl, ap, ◌∙◌, ℕ, zero, suc, ◌<◌, ◌||◌, Some, None, List, [], ◌∷◌, ◌++◌, length, map, arith}
+use Rattle.std.proofs.Common.{◌≡◌, refl, ap, ◌∙◌, ℕ, zero, suc, ◌<◌, ◌||◌, Some, None, List, [], ◌∷◌}
+use Rattle.std.proofs.Common.{◌++◌, length, map, arith}
 use Rattle.std.specs.Prelude.{slice_get, ◌==◌}
 use Rattle.std.proofs.lemmas.Bool.{lt-ltb}
 use Rattle.std.specs.List.{AllByRecursion, list_any}
 use Rattle.hh_base.specs.declared.value.Kind.TheVariants as kind
-use Rattle.host_expr.specs.Expression.{Int, Flag, Text, Now, Pre, NowVal, PreVal, Arg, Not, Neg, Arith, Compare, And, Or, Choose}
+use Rattle.host_expr.specs.Expression.{Int, Flag, Text, Now, Pre, NowVal, PreVal, Arg, Not, Neg, Arith}
+use Rattle.host_expr.specs.Expression.{Compare, And, Or, Choose}
 use Rattle.host_expr.specs.Kinds.{status_kind}
 use Rattle.hh_base.specs.declared.value.Dir.TheVariants as dir
 use Rattle.hh_term.specs.declared.program.SignalDecl.{SignalDecl}
-use Rattle.hh_term.specs.Statement.{Statement, Nothing, Pause, Emit, If, Suspend, Seq, Par, Loop, Trap, Exit, Local, Async}
+use Rattle.hh_term.specs.Statement.{Statement, Nothing, Pause, Emit, If, Suspend, Seq, Par, Loop, Trap}
+use Rattle.hh_term.specs.Statement.{Exit, Local, Async}
 use Rattle.hh_term.specs.Kernel.{Kernel}
 use Rattle.hh_term.specs.FirstLanguage.{HasDirection, IsFirstStatement, IsFirstSignal}
 use Rattle.hh_term.specs.Sizes.{size_of, copied_size_of, traps_round}
@@ -20,7 +23,8 @@ pub data First (signals : List SignalDecl) : Statement → Type 0 where
   nothing : First signals Nothing
   pause : First signals Pause
   emission : {s : ℕ} → HasDirection signals s dir.Output → First signals (Emit s None)
-  test : {s : ℕ} {p q : Statement} → HasDirection signals s dir.Input → First signals p → First signals q → First signals (If (Now s) p q)
+  test : {s : ℕ} {p q : Statement} → HasDirection signals s dir.Input → First signals p → First signals q
+      → First signals (If (Now s) p q)
   sequence : {p q : Statement} → First signals p → First signals q → First signals (Seq p q)
 
 pub first_of : (signals : List SignalDecl) (p : Statement) → IsFirstStatement signals p → First signals p
@@ -100,30 +104,41 @@ same_size K (test {p = p} {q = q} h f g) = omega (arith, same_size K f, same_siz
 same_size K (sequence {p = p} {q = q} f g) = omega (arith, same_size K f, same_size K g)
 
 -- what is declared lies within the list, is of the interface and pure
-found_within : (signals : List SignalDecl) (s : ℕ) (d : SignalDecl) → slice_get signals s ≡ Some d → s < length signals
+found_within : (signals : List SignalDecl) (s : ℕ) (d : SignalDecl) → slice_get signals s ≡ Some d
+    → s < length signals
 found_within [] s d h = absurd (cc)
 found_within (x ∷ xs) zero d h = omega arith
 found_within (x ∷ xs) (suc s) d h = omega (arith, found_within xs s d h)
 
-found_pure : (signals : List SignalDecl) (s : ℕ) (d : SignalDecl) → AllByRecursion IsFirstSignal signals → slice_get signals s ≡ Some d → slice_get (map (λ c. c.kind) signals) s ≡ Some kind.Pure
+found_pure : (signals : List SignalDecl) (s : ℕ) (d : SignalDecl) → AllByRecursion IsFirstSignal signals
+    → slice_get signals s ≡ Some d → slice_get (map (λ c. c.kind) signals) s ≡ Some kind.Pure
 found_pure [] s d a h = absurd (cc)
 found_pure (x ∷ xs) zero d a h = ap Some a.0.pure
 found_pure (x ∷ xs) (suc s) d a h = found_pure xs s d a.1 h
 
-pub statement_fits : (K : Kernel) {p : Statement} → AllByRecursion IsFirstSignal K.signals → First K.signals p → StatementFits K p
+pub statement_fits : (K : Kernel) {p : Statement} → AllByRecursion IsFirstSignal K.signals
+    → First K.signals p → StatementFits K p
 statement_fits K a nothing = tt
 statement_fits K a pause = tt
 statement_fits K a (emission {s = s} h) = found_pure K.signals s h.0 a h.1
-statement_fits K a (test {s = s} h f g) =
-    (record { kind = ap status_kind (found_pure K.signals s h.0 a h.1); small = omega arith }, statement_fits K a f, statement_fits K a g)
+statement_fits K a (test {s = s} h f g) = (
+  record { kind = ap status_kind (found_pure K.signals s h.0 a h.1); small = omega arith },
+  statement_fits K a f,
+  statement_fits K a g,
+)
 statement_fits K a (sequence f g) = (statement_fits K a f, statement_fits K a g)
 
 in_interface : (K : Kernel) (locals : List ℕ) (s : ℕ) → s < K.interface → IsInScope K locals s
 in_interface K locals s h = ap (λ x. x || list_any (λ t. t == s) locals) (lt-ltb s K.interface h)
 
-pub uses_in_scope : (K : Kernel) {p : Statement} → K.interface ≡ length K.signals → First K.signals p → UsesInScope K [] p
+pub uses_in_scope : (K : Kernel) {p : Statement} → K.interface ≡ length K.signals → First K.signals p
+    → UsesInScope K [] p
 uses_in_scope K e nothing = tt
 uses_in_scope K e pause = tt
 uses_in_scope K e (emission {s = s} h) = (in_interface K [] s (rw e (found_within K.signals s h.0 h.1)), tt)
-uses_in_scope K e (test {s = s} h f g) = ((in_interface K [] s (rw e (found_within K.signals s h.0 h.1)), tt), uses_in_scope K e f, uses_in_scope K e g)
+uses_in_scope K e (test {s = s} h f g) = (
+  (in_interface K [] s (rw e (found_within K.signals s h.0 h.1)), tt),
+  uses_in_scope K e f,
+  uses_in_scope K e g,
+)
 uses_in_scope K e (sequence f g) = (uses_in_scope K e f, uses_in_scope K e g)

@@ -1,3 +1,4 @@
+pub mod Unplaced
 pub mod Embedding
 pub mod CodeSets
 pub mod Rises

@@ -1,5 +1,6 @@
 -- Runs of reactions over the definitions alone, and short words for the kernel statements of worked programs.
-use Rattle.std.specs.Prelude.{◌&&◌, ◌++◌, ◌∷◌, Bool, List, None, Option, Some, [], cond, false, length, map, pos, slice_get, true, ℕ}
+use Rattle.std.specs.Prelude.{◌&&◌, ◌++◌, ◌∷◌, Bool, List, None, Option, Some, [], cond, false, length}
+use Rattle.std.specs.Prelude.{map, pos, slice_get, true, ℕ}
 use Rattle.hh_base.specs.declared.value.Pos.{Pos}
 use Rattle.hh_base.specs.declared.value.Kind.{Kind}
 use Rattle.hh_base.specs.declared.value.Kind.TheVariants as kind
@@ -42,16 +43,21 @@ is_output None = false
 
 abbrev pub shown : Kernel → List SignalNow → List (ℕ × Value)
 shown K [] = []
-shown K (n ∷ ns) = cond (n.status && is_output (slice_get K.signals n.signal)) ((n.signal, n.val) ∷ shown K ns) (shown K ns)
+shown K (n ∷ ns) =
+    cond (n.status && is_output (slice_get K.signals n.signal)) ((n.signal, n.val) ∷ shown K ns)
+    (shown K ns)
 
--- a reaction that completes leaves its control and its interface to the next one, a refused one changes nothing
+-- a reaction that completes leaves its control and its interface to the next one, a refused one changes
+-- nothing
 abbrev pub follow : Kernel → Control → List Last → (Control → List Last → List Line) → Outcome → List Line
-follow K c before rest (Completes done) = Replies done.code (shown K done.signals) ∷ rest done.next (map last_of done.signals)
+follow K c before rest (Completes done) =
+    Replies done.code (shown K done.signals) ∷ rest done.next (map last_of done.signals)
 follow K c before rest refused = Refuses refused ∷ rest c before
 
 abbrev pub runs_from : Kernel → Control → List Last → List (List (ℕ × Value)) → List Line
 runs_from K c before [] = []
-runs_from K c before (given ∷ later) = follow K c before (λ d after. runs_from K d after later) (reaction K c before given 0)
+runs_from K c before (given ∷ later) =
+    follow K c before (λ d after. runs_from K d after later) (reaction K c before given 0)
 
 abbrev pub runs : Kernel → List (List (ℕ × Value)) → List Line
 runs K inputs = runs_from K Fresh (first_lasts K) inputs
@@ -59,7 +65,8 @@ runs K inputs = runs_from K Fresh (first_lasts K) inputs
 -- ---- programs
 
 abbrev pub declared : Dir → Kind → Value → Option CombineWord → ℕ → SignalDecl
-declared d k v w p = record { name = Some []; dir = d; kind = k; first = v; combine = w; pos = record { 0 = p } }
+declared d k v w p =
+    record { name = Some []; dir = d; kind = k; first = v; combine = w; pos = record { 0 = p } }
 
 abbrev pub input : ℕ → SignalDecl
 input p = declared dir.Input kind.Pure value.Unit None p
@@ -74,7 +81,14 @@ abbrev pub hidden : ℕ → SignalDecl
 hidden p = declared dir.Local kind.Pure value.Unit None p
 
 abbrev pub program : List SignalDecl → List SignalDecl → Statement → Kernel
-program interface locals p = record { signals = interface ++ locals; interface = length interface; bodies = []; sites = []; statement = p }
+program interface locals p =
+    record {
+      signals = interface ++ locals;
+      interface = length interface;
+      bodies = [];
+      sites = [];
+      statement = p;
+    }
 
 abbrev pub emit : ℕ → Statement
 emit s = Emit s None

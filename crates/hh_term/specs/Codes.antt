@@ -1,7 +1,10 @@
--- Completion codes: 0 ends, 1 pauses, k + 2 exits the trap that is k traps outward; and the codes with which a statement may
--- complete, read off its text. (Berry, The Constructive Semantics of Pure Esterel; the code of async is this project's own.)
+-- Completion codes: 0 ends, 1 pauses, k + 2 exits the trap that is k traps outward; and the codes with
+-- which a statement may
+-- complete, read off its text. (Berry, The Constructive Semantics of Pure Esterel; the code of async is
+-- this project's own.)
 use Rattle.std.specs.Prelude.{ℕ, zero, suc, ◌+◌, Bool, false, ◌||◌, ◌&&◌, eqb}
-use Rattle.hh_term.specs.Statement.{Statement, Nothing, Pause, Emit, If, Suspend, Seq, Par, Loop, Trap, Exit, Local, Async}
+use Rattle.hh_term.specs.Statement.{Statement, Nothing, Pause, Emit, If, Suspend, Seq, Par, Loop, Trap}
+use Rattle.hh_term.specs.Statement.{Exit, Local, Async}
 
 -- A set of codes, as the test for being in it.
 abbrev pub CodeSet : Type 0

@@ -1,4 +1,5 @@
--- The programs of the first language: pure interface signals only, and statements made of nothing, pause, emission of an output,
+-- The programs of the first language: pure interface signals only, and statements made of nothing, pause,
+-- emission of an output,
 -- test of an input and sequence. (This project's own.)
 use Rattle.std.specs.Prelude.{◌≡◌, ℕ, Some, None, List, [], slice_get, length}
 use Rattle.std.specs.List.{AllByRecursion}
@@ -19,7 +20,8 @@ abbrev pub IsFirstStatement : List SignalDecl → Statement → Type 0
 IsFirstStatement signals Nothing = Unit {0}
 IsFirstStatement signals Pause = Unit {0}
 IsFirstStatement signals (Emit s None) = HasDirection signals s dir.Output
-IsFirstStatement signals (If (Now s) p q) = HasDirection signals s dir.Input × IsFirstStatement signals p × IsFirstStatement signals q
+IsFirstStatement signals (If (Now s) p q) =
+    HasDirection signals s dir.Input × IsFirstStatement signals p × IsFirstStatement signals q
 IsFirstStatement signals (Seq p q) = IsFirstStatement signals p × IsFirstStatement signals q
 IsFirstStatement signals _ = ⊥
 

@@ -1,23 +1,26 @@
--- Kinds fit: in declarations, in the statement and at the async sites, within the limit of each expression. (This project's own.)
+-- Kinds fit: in declarations, in the statement and at the async sites, within the limit of each
+-- expression. (This project's own.)
 use Rattle.std.specs.Prelude.{◌≡◌, ℕ, ◌≤◌, true, Option, Some, None, List, [], ◌∷◌, map, slice_get}
 use Rattle.std.specs.List.{AllByRecursion}
 use Rattle.hh_base.specs.declared.value.Kind.{Kind}
 use Rattle.hh_base.specs.declared.value.Kind.TheVariants as kind
 use Rattle.hh_base.specs.declared.value.CombineWord.{CombineWord}
 use Rattle.hh_base.specs.declared.value.CombineWord.TheVariants as word
+use Rattle.host_expr.specs.declared.expr.TheConstants.{EXPRESSION_LIMIT}
 use Rattle.host_expr.specs.Expression.{Expression}
-use Rattle.host_expr.specs.Combination.{is_valued}
-use Rattle.hh_base.specs.Value.{kind_of}
+use Rattle.hh_base.specs.Value.{kind_of, is_valued}
 use Rattle.host_expr.specs.Kinds.{kind_of_expression}
 use Rattle.host_expr.specs.Measures.{leaves_and_operators}
 use Rattle.hh_term.specs.declared.program.SignalDecl.{SignalDecl}
-use Rattle.hh_term.specs.Statement.{Statement, Nothing, Pause, Emit, If, Suspend, Seq, Par, Loop, Trap, Exit, Local, Async}
+use Rattle.hh_term.specs.Statement.{Statement, Nothing, Pause, Emit, If, Suspend, Seq, Par, Loop, Trap}
+use Rattle.hh_term.specs.Statement.{Exit, Local, Async}
 use Rattle.hh_term.specs.Kernel.{Kernel, Body, AsyncSite}
 
--- an expression over these signals and parameters has this kind, and at most 1,024 leaves and operators
+-- an expression over these signals and parameters has this kind, and no more leaves and operators than an
+-- expression may have
 pub record HasKind (signals args : List Kind) (k : Kind) (e : Expression) : Type 0 where
   pub kind : kind_of_expression signals args e ≡ Some k
-  pub small : leaves_and_operators e ≤ 1024
+  pub small : leaves_and_operators e ≤ EXPRESSION_LIMIT
 
 abbrev pub kinds_of : Kernel → List Kind
 kinds_of K = map (λ d. d.kind) K.signals

@@ -1,8 +1,11 @@
--- What every program keeps: the rules on its declarations, its statement and their limits. (This project's own.)
+-- What every program keeps: the rules on its declarations, its statement and their limits. (This
+-- project's own.)
 use Rattle.std.specs.Prelude.{◌≡◌, ◌≢◌, ◌-◌, ◌≤◌, IsSome, List, [], length, take, drop}
 use Rattle.std.specs.List.{AllByRecursion, range_with_len}
 use Rattle.hh_base.specs.declared.value.Dir.TheVariants as dir
 use Rattle.hh_term.specs.declared.program.SignalDecl.{SignalDecl}
+use Rattle.hh_term.specs.declared.limits.TheConstants.{SIZE_LIMIT, COPIED_LIMIT, HEIGHT_LIMIT, TRAP_LIMIT}
+use Rattle.hh_term.specs.declared.limits.TheConstants.{SITE_LIMIT}
 use Rattle.hh_term.specs.Kernel.{Kernel}
 use Rattle.hh_term.specs.Pairs.{EachPair}
 use Rattle.hh_term.specs.Sizes.{size_of, copied_size_of, height_of, traps_round}
@@ -26,11 +29,11 @@ abbrev pub NamesGoByPosition : List SignalDecl → Type 0
 NamesGoByPosition = EachPair (λ d e. d.pos ≡ e.pos → d.name ≡ e.name)
 
 pub record IsWithinLimits (K : Kernel) : Type 0 where
-  pub size : size_of K K.statement ≤ 65536
-  pub copied : copied_size_of K K.statement ≤ 1048576
-  pub height : height_of K.statement ≤ 1024
-  pub traps : traps_round K.statement ≤ 32
-  pub sites : length K.sites ≤ 1024
+  pub size : size_of K K.statement ≤ SIZE_LIMIT
+  pub copied : copied_size_of K K.statement ≤ COPIED_LIMIT
+  pub height : height_of K.statement ≤ HEIGHT_LIMIT
+  pub traps : traps_round K.statement ≤ TRAP_LIMIT
+  pub sites : length K.sites ≤ SITE_LIMIT
 
 pub record IsProgram (K : Kernel) : Type 0 where
   pub interface_declared : K.interface ≤ length K.signals

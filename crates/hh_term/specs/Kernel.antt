@@ -1,4 +1,5 @@
--- A kernel program as definitions see it: signals, the first `interface` of them being its interface, bodies, async sites and
+-- A kernel program as definitions see it: signals, the first `interface` of them being its interface,
+-- bodies, async sites and
 -- the statement. (This project's own.)
 use Rattle.std.specs.Prelude.{ℕ, Option, Some, None, List, [], slice_get}
 use Rattle.hh_base.specs.declared.value.Pos.{Pos}

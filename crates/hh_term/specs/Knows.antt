@@ -1,4 +1,5 @@
--- What it means to know more of what a statement does: Must extends and Can shrinks. (Berry, The Constructive Semantics of Pure
+-- What it means to know more of what a statement does: Must extends and Can shrinks. (Berry, The
+-- Constructive Semantics of Pure
 -- Esterel, widened by values.)
 use Rattle.std.specs.Prelude.{◌≡◌, ℕ, true, Option, Some, None, List, [], ◌∷◌}
 use Rattle.host_expr.specs.declared.cell.Cell.{Cell}
@@ -15,7 +16,8 @@ abbrev pub CodeBelow : Option ℕ → Option ℕ → Type 0
 CodeBelow None d = Unit {0}
 CodeBelow (Some c) d = d ≡ Some c
 
--- the second list is the first with more elements in between, and each element of the first is in its relation to its own
+-- the second list is the first with more elements in between, and each element of the first is in its
+-- relation to its own
 pub data Embeds {A : Type 0} (R : A → A → Type 0) : List A → List A → Type 0 where
   ended : Embeds R [] []
   keep : {x y : A} {xs ys : List A} → R x y → Embeds R xs ys → Embeds R (x ∷ xs) (y ∷ ys)

@@ -2,8 +2,8 @@ pub mod Statement
 pub mod Selection
 pub mod Kernel
 pub mod Views
-pub mod Assembled
-pub mod Viewed
+pub mod Placed
+pub mod ProgramView
 pub mod Codes
 pub mod Flags
 pub mod MustCan
@@ -19,5 +19,4 @@ pub mod Scopes
 pub mod Fits
 pub mod IsProgram
 pub mod Marks
-pub mod ControlIn
 pub mod Entering

@@ -1,4 +1,5 @@
--- The marks of a statement, the ids in a mark, and the kinds of its values. (Berry's marked terms; ids and values are this
+-- The marks of a statement, the ids in a mark, and the kinds of its values. (Berry's marked terms; ids
+-- and values are this
 -- project's own.)
 use Rattle.std.specs.Prelude.{◌≡◌, ◌≢◌, ℕ, Option, Some, None, List, [], ◌∷◌, ◌++◌, map, slice_get}
 use Rattle.std.specs.List.{AllByRecursion}
@@ -6,7 +7,8 @@ use Rattle.hh_base.specs.declared.value.Kind.{Kind}
 use Rattle.hh_base.specs.declared.value.Kind.TheVariants as kind
 use Rattle.hh_base.specs.Value.{kind_of}
 use Rattle.hh_term.specs.Statement.{Statement, Pause, If, Suspend, Seq, Par, Loop, Trap, Local, Async}
-use Rattle.hh_term.specs.Selection.{Selection, AtPause, AtAsync, First, Second, Both, Inside, Scope, Control, Fresh, At, Ended}
+use Rattle.hh_term.specs.Selection.{Selection, AtPause, AtAsync, First, Second, Both, Inside, Scope}
+use Rattle.hh_term.specs.Selection.{Control, Fresh, At, Ended}
 use Rattle.hh_term.specs.Kernel.{Kernel, Body, kind_at, params_at}
 use Rattle.hh_term.specs.Pairs.{EachPair}
 
@@ -55,7 +57,8 @@ body_answer (Some b) = b.answer
 body_answer None = kind.Pure
 
 abbrev pub answer_at : Kernel → ℕ → Kind
-answer_at K n = (elim (slice_get K.sites n) [ Some a ↦ body_answer (slice_get K.bodies a.body) | None ↦ kind.Pure ])
+answer_at K n =
+    (elim (slice_get K.sites n) [ Some a ↦ body_answer (slice_get K.bodies a.body) | None ↦ kind.Pure ])
 
 -- the values, arguments and items in a mark have their kinds
 abbrev pub MarkFits : Kernel → Statement → Selection → Type 0

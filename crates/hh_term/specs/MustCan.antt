@@ -1,7 +1,10 @@
--- What a statement must do and what it can do in one reaction: Must and Can, in one recursion over the statement with the
--- index as an argument. (Berry, The Constructive Semantics of Pure Esterel; values, previous status and value, and the rows of async
+-- What a statement must do and what it can do in one reaction: Must and Can, in one recursion over the
+-- statement with the
+-- index as an argument. (Berry, The Constructive Semantics of Pure Esterel; values, previous status and
+-- value, and the rows of async
 -- are this project's own.)
-use Rattle.std.specs.Prelude.{ℕ, zero, suc, ◌+◌, Bool, true, false, cond, ◌&&◌, ◌==◌, max, Option, Some, None, List, [], ◌∷◌, ◌++◌, length, map}
+use Rattle.std.specs.Prelude.{ℕ, zero, suc, ◌+◌, Bool, true, false, cond, ◌&&◌, ◌==◌, max, Option, Some}
+use Rattle.std.specs.Prelude.{None, List, [], ◌∷◌, ◌++◌, length, map}
 use Rattle.hh_base.specs.declared.value.Pos.{Pos}
 use Rattle.hh_base.specs.declared.value.Tri.{Tri}
 use Rattle.hh_base.specs.declared.value.Tri.TheVariants.{Unknown, Zero, One}
@@ -17,9 +20,11 @@ use Rattle.host_expr.specs.Expression.{Expression}
 use Rattle.host_expr.specs.Environment.{Env, is_known, unsolved, put}
 use Rattle.host_expr.specs.Evaluation.{eval_of, truth}
 use Rattle.host_expr.specs.Combination.{combined, counts_as}
-use Rattle.hh_term.specs.Statement.{Statement, Nothing, Pause, Emit, If, Suspend, Seq, Par, Loop, Trap, Exit, Local, Async}
+use Rattle.hh_term.specs.Statement.{Statement, Nothing, Pause, Emit, If, Suspend, Seq, Par, Loop, Trap}
+use Rattle.hh_term.specs.Statement.{Exit, Local, Async}
 use Rattle.hh_term.specs.Selection.{AtAsync, First, Second, Both, Inside, Scope, Task, Start, Resume}
-use Rattle.hh_term.specs.Kernel.{Kernel, kind_at, first_at, word_at, position_at, target_at, arguments_at, params_at}
+use Rattle.hh_term.specs.Kernel.{Kernel, kind_at, first_at, word_at, position_at, target_at, arguments_at}
+use Rattle.hh_term.specs.Kernel.{params_at}
 use Rattle.hh_term.specs.Codes.{CodeSet, only, either, in_turn, greater_of, lowered}
 
 -- what the declarations of a program say of its signals and of its async sites
@@ -81,14 +86,25 @@ go_on c next = c
 abbrev pub sequence : MustCan → (Index → MustCan) → MustCan
 sequence a f =
     let b = f (is_end a.code) in
-    record { must = a.must ++ b.must; code = go_on a.code b.code; can = a.can ++ cond (a.codes 0) b.can []; codes = in_turn a.codes b.codes }
+    record {
+      must = a.must ++ b.must;
+      code = go_on a.code b.code;
+      can = a.can ++ cond (a.codes 0) b.can [];
+      codes = in_turn a.codes b.codes;
+    }
 
 abbrev pub greater : Option ℕ → Option ℕ → Option ℕ
 greater (Some c) (Some d) = Some (max c d)
 greater _ _ = None
 
 abbrev pub parallel : MustCan → MustCan → MustCan
-parallel a b = record { must = a.must ++ b.must; code = greater a.code b.code; can = a.can ++ b.can; codes = greater_of a.codes b.codes }
+parallel a b =
+    record {
+      must = a.must ++ b.must;
+      code = greater a.code b.code;
+      can = a.can ++ b.can;
+      codes = greater_of a.codes b.codes;
+    }
 
 -- 0 and 2 give 0, 1 gives 1, greater codes are lowered by one
 abbrev pub lower : ℕ → ℕ
@@ -104,7 +120,8 @@ lower_code None = None
 abbrev pub trapped : MustCan → MustCan
 trapped a = record { must = a.must; code = lower_code a.code; can = a.can; codes = lowered a.codes }
 
--- by a test: the first where it holds, the second where it does not or faults, one of them where it is unknown
+-- by a test: the first where it holds, the second where it does not or faults, one of them where it is
+-- unknown
 abbrev pub chosen : Cell → Index → (Index → MustCan) → (Index → MustCan) → MustCan
 chosen cell.Unknown i p q = one_of (p Possible) (q Possible)
 chosen (cell.Known v) i p q = cond (truth v) (p i) (q i)
@@ -158,7 +175,8 @@ all_known (c ∷ cs) = is_known c && all_known cs
 abbrev pub value_by : Kind → Option CombineWord → Value → List Cell → List Cell → Cell
 value_by k w before must [] = cell.Known before
 value_by k w before must (c ∷ cs) =
-    cond (length must == length (c ∷ cs) && all_known must) (cell.Known (combined k w (map (counts_as k) must))) cell.Unknown
+    cond (length must == length (c ∷ cs) && all_known must)
+    (cell.Known (combined k w (map (counts_as k) must))) cell.Unknown
 
 -- what one round makes of a signal, from what its body must and can do
 abbrev pub raised : Table → ℕ → SigCell → MustCan → SigCell
@@ -189,20 +207,24 @@ must_can T (Emit s e) t i E = gives ((s, emitted e E) ∷ []) 0 i
 must_can T (Exit k) t i E = gives [] (k + 2) i
 must_can T (Async n) Start i E = gives [] 1 i
 must_can T (Async n) (Resume (AtAsync id args queue suspended)) i E = answered (T.target n) queue i
-must_can T (If e p q) Start i E = chosen (eval_of e E []) i (λ j. must_can T p Start j E) (λ j. must_can T q Start j E)
+must_can T (If e p q) Start i E =
+    chosen (eval_of e E []) i (λ j. must_can T p Start j E) (λ j. must_can T q Start j E)
 must_can T (If e p q) (Resume (First m)) i E = must_can T p (Resume m) i E
 must_can T (If e p q) (Resume (Second m)) i E = must_can T q (Resume m) i E
 must_can T (Suspend e p) Start i E = must_can T p Start i E
 must_can T (Suspend e p) (Resume (Inside m)) i E = held (eval_of e E []) i (λ j. must_can T p (Resume m) j E)
 must_can T (Seq p q) Start i E = sequence (must_can T p Start i E) (λ j. must_can T q Start j E)
-must_can T (Seq p q) (Resume (First m)) i E = sequence (must_can T p (Resume m) i E) (λ j. must_can T q Start j E)
+must_can T (Seq p q) (Resume (First m)) i E =
+    sequence (must_can T p (Resume m) i E) (λ j. must_can T q Start j E)
 must_can T (Seq p q) (Resume (Second m)) i E = must_can T q (Resume m) i E
 must_can T (Par p q) Start i E = parallel (must_can T p Start i E) (must_can T q Start i E)
 must_can T (Par p q) (Resume (First m)) i E = parallel (must_can T p (Resume m) i E) (gives [] 0 i)
 must_can T (Par p q) (Resume (Second m)) i E = parallel (gives [] 0 i) (must_can T q (Resume m) i E)
-must_can T (Par p q) (Resume (Both m n)) i E = parallel (must_can T p (Resume m) i E) (must_can T q (Resume n) i E)
+must_can T (Par p q) (Resume (Both m n)) i E =
+    parallel (must_can T p (Resume m) i E) (must_can T q (Resume n) i E)
 must_can T (Loop p) Start i E = must_can T p Start i E
-must_can T (Loop p) (Resume (Inside m)) i E = sequence (must_can T p (Resume m) i E) (λ j. must_can T p Start j E)
+must_can T (Loop p) (Resume (Inside m)) i E =
+    sequence (must_can T p (Resume m) i E) (λ j. must_can T p Start j E)
 must_can T (Trap p) Start i E = trapped (must_can T p Start i E)
 must_can T (Trap p) (Resume (Inside m)) i E = trapped (must_can T p (Resume m) i E)
 must_can T (Local s p) Start i E = scoped T s (must_can T p Start i) E (unsolved false (T.first s))

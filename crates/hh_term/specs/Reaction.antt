@@ -1,6 +1,9 @@
--- A reaction of a program: the interface signals are solved as the outermost scopes, a given input is one more emission, and a
--- reaction is refused or completes. (Berry's reaction; the refusals and what is kept of values are this project's own.)
-use Rattle.std.specs.Prelude.{ℕ, suc, Bool, false, cond, ◌&&◌, ◌||◌, ◌==◌, nat_lt, Option, Some, None, List, [], ◌∷◌, ◌++◌, length, map, fold, take}
+-- A reaction of a program: the interface signals are solved as the outermost scopes, a given input is one
+-- more emission, and a
+-- reaction is refused or completes. (Berry's reaction; the refusals and what is kept of values are this
+-- project's own.)
+use Rattle.std.specs.Prelude.{ℕ, suc, Bool, false, cond, ◌&&◌, ◌||◌, ◌==◌, nat_lt, Option, Some, None}
+use Rattle.std.specs.Prelude.{List, [], ◌∷◌, ◌++◌, length, map, fold, take}
 use Rattle.hh_base.specs.declared.value.Pos.{Pos}
 use Rattle.hh_base.specs.declared.value.Value.{Value}
 use Rattle.hh_base.specs.declared.value.FaultKind.{FaultKind}
@@ -32,7 +35,8 @@ given_bag o = (elim o.given [ Some v ↦ (o.signal, cell.Known v) ∷ [] | None 
 
 -- a given input is one more emission
 abbrev pub with_given : Outer → MustCan → MustCan
-with_given o a = record { must = given_bag o ++ a.must; code = a.code; can = given_bag o ++ a.can; codes = a.codes }
+with_given o a =
+    record { must = given_bag o ++ a.must; code = a.code; can = given_bag o ++ a.can; codes = a.codes }
 
 abbrev pub solved_cell : Table → Outer → (Env → MustCan) → Env → SigCell
 solved_cell T o p E = solve T o.signal (λ F. with_given o (p F)) E (unsolved o.last.status o.last.val)
@@ -40,7 +44,8 @@ solved_cell T o p E = solve T o.signal (λ F. with_given o (p F)) E (unsolved o.
 -- the interface signals as the outermost scopes, and the environment that they leave
 abbrev pub nest : Table → List Outer → (Env → MustCan) → Env → MustCan
 nest T [] p E = p E
-nest T (o ∷ os) p E = hide o.signal (with_given o (nest T os p (put E o.signal (solved_cell T o (nest T os p) E))))
+nest T (o ∷ os) p E =
+    hide o.signal (with_given o (nest T os p (put E o.signal (solved_cell T o (nest T os p) E))))
 
 abbrev pub solved : Table → List Outer → (Env → MustCan) → Env → Env
 solved T [] p E = E
@@ -74,14 +79,18 @@ program_step T p Ended E = Some (record { stepped = idle; code = None })
 
 abbrev pub undecided : Env → List Outer → List ℕ
 undecided E [] = []
-undecided E (o ∷ os) = cond (is_decided (E o.signal).status && is_known (E o.signal).value) (undecided E os) (o.signal ∷ undecided E os)
+undecided E (o ∷ os) =
+    cond (is_decided (E o.signal).status && is_known (E o.signal).value) (undecided E os)
+    (o.signal ∷ undecided E os)
 
 -- each interface signal is left like a scope
 abbrev pub leave_all : Table → List Outer → Stepped → Stepped
 leave_all T [] a = a
-leave_all T (o ∷ os) a = leave T o.signal (let b = leave_all T os a in record b { bag = given_bag o ++ b.bag })
+leave_all T (o ∷ os) a =
+    leave T o.signal (let b = leave_all T os a in record b { bag = given_bag o ++ b.bag })
 
--- an interface signal in a reaction that completes: its emissions, a given input among them, its status and its value
+-- an interface signal in a reaction that completes: its emissions, a given input among them, its status
+-- and its value
 pub record Now : Type 0 where
   pub signal : ℕ
   pub emissions : ℕ
@@ -142,7 +151,12 @@ judged T os last E r =
     let left = leave_all T os r.stepped in
     (elim left.doubled [
       | s ∷ ss ↦ Doubled (fold (first_declared T) s ss)
-      | [] ↦ (elim left.faults [ f ∷ fs ↦ Faulted (fold earlier f fs).0 (fold earlier f fs).1 | [] ↦ Completes (completed T os last E r) ])
+      | [] ↦ (elim left.faults [
+        | f
+            ∷ fs ↦ Faulted (fold earlier f fs).0 (fold earlier f fs).1
+        | [] ↦ Completes
+            (completed T os last E r)
+      ])
     ])
 
 abbrev pub concluded : Table → List Outer → ℕ → Env → Option Ran → Outcome
@@ -152,7 +166,11 @@ concluded T os last E (Some r) = judged T os last E r
 abbrev pub react : Table → List Outer → Statement → Control → ℕ → Outcome
 react T os p c last =
     let E = solved T os (program_must_can T p c) blank in
-    (elim (undecided E os) [ [] ↦ concluded T os last E (program_step T p c E) | s ∷ ss ↦ Undecided (s ∷ ss) ])
+    (elim (undecided E os) [
+      | [] ↦ concluded T os last E (program_step T p c E)
+      | s
+          ∷ ss ↦ Undecided (s ∷ ss)
+    ])
 
 -- the inputs of a reaction are pairs of a signal and its value
 abbrev pub given_to : List (ℕ × Value) → ℕ → Option Value
@@ -163,7 +181,8 @@ abbrev pub outers_from : ℕ → List (ℕ × Value) → List Last → List Oute
 outers_from s is [] = []
 outers_from s is (l ∷ ls) = record { signal = s; last = l; given = given_to is s } ∷ outers_from (suc s) is ls
 
--- the reaction of a program whose control is here, after these last statuses and values of its interface, to these inputs; `last`
+-- the reaction of a program whose control is here, after these last statuses and values of its interface,
+-- to these inputs; `last`
 -- is the last id that an async instance got
 abbrev pub reaction : Kernel → Control → List Last → List (ℕ × Value) → ℕ → Outcome
 reaction K c before is last = react (table_of K) (outers_from 0 is before) K.statement c last

@@ -1,10 +1,13 @@
--- Where exits, local signals and async sites stand in a statement. (Berry, The Constructive Semantics of Pure Esterel; the numbers
+-- Where exits, local signals and async sites stand in a statement. (Berry, The Constructive Semantics of
+-- Pure Esterel; the numbers
 -- of locals and sites are this project's own.)
-use Rattle.std.specs.Prelude.{◌≡◌, ℕ, suc, ◌<◌, ◌==◌, false, ◌||◌, nat_lt, IsTrue, Option, Some, None, List, [], ◌∷◌, ◌++◌, flat_map}
+use Rattle.std.specs.Prelude.{◌≡◌, ℕ, suc, ◌<◌, ◌==◌, false, ◌||◌, nat_lt, IsTrue, Option, Some, None}
+use Rattle.std.specs.Prelude.{List, [], ◌∷◌, ◌++◌, flat_map}
 use Rattle.std.specs.List.{AllByRecursion, list_any}
 use Rattle.host_expr.specs.Expression.{Expression}
 use Rattle.host_expr.specs.Measures.{signals_read}
-use Rattle.hh_term.specs.Statement.{Statement, Nothing, Pause, Emit, If, Suspend, Seq, Par, Loop, Trap, Exit, Local, Async}
+use Rattle.hh_term.specs.Statement.{Statement, Nothing, Pause, Emit, If, Suspend, Seq, Par, Loop, Trap}
+use Rattle.hh_term.specs.Statement.{Exit, Local, Async}
 use Rattle.hh_term.specs.Kernel.{Kernel, target_at, arguments_at}
 use Rattle.hh_term.specs.Codes.{static_codes}
 
@@ -73,9 +76,12 @@ site_signals K n = signal_list (target_at K n) ++ flat_map signals_read (argumen
 abbrev pub UsesInScope : Kernel → List ℕ → Statement → Type 0
 UsesInScope K locals Nothing = Unit {0}
 UsesInScope K locals Pause = Unit {0}
-UsesInScope K locals (Emit s e) = IsInScope K locals s × AllByRecursion (IsInScope K locals) (optional_signals e)
-UsesInScope K locals (If e p q) = AllByRecursion (IsInScope K locals) (signals_read e) × UsesInScope K locals p × UsesInScope K locals q
-UsesInScope K locals (Suspend e p) = AllByRecursion (IsInScope K locals) (signals_read e) × UsesInScope K locals p
+UsesInScope K locals (Emit s e) =
+    IsInScope K locals s × AllByRecursion (IsInScope K locals) (optional_signals e)
+UsesInScope K locals (If e p q) =
+    AllByRecursion (IsInScope K locals) (signals_read e) × UsesInScope K locals p × UsesInScope K locals q
+UsesInScope K locals (Suspend e p) =
+    AllByRecursion (IsInScope K locals) (signals_read e) × UsesInScope K locals p
 UsesInScope K locals (Seq p q) = UsesInScope K locals p × UsesInScope K locals q
 UsesInScope K locals (Par p q) = UsesInScope K locals p × UsesInScope K locals q
 UsesInScope K locals (Loop p) = UsesInScope K locals p

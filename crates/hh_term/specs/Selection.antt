@@ -1,4 +1,5 @@
--- Where control rests between two reactions. (Berry's marked terms; the marks of async and the last status and value in a
+-- Where control rests between two reactions. (Berry's marked terms; the marks of async and the last
+-- status and value in a
 -- local's mark are this project's own.)
 use Rattle.std.specs.Prelude.{ℕ, Bool, List}
 use Rattle.hh_base.specs.declared.value.Value.{Value}

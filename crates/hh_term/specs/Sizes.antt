@@ -4,7 +4,8 @@ use Rattle.hh_base.specs.declared.value.Value.{Value}
 use Rattle.hh_base.specs.declared.value.Value.TheVariants as value
 use Rattle.host_expr.specs.Expression.{Expression}
 use Rattle.host_expr.specs.Measures.{text_blocks, size_of_expression}
-use Rattle.hh_term.specs.Statement.{Statement, Nothing, Pause, Emit, If, Suspend, Seq, Par, Loop, Trap, Exit, Local, Async}
+use Rattle.hh_term.specs.Statement.{Statement, Nothing, Pause, Emit, If, Suspend, Seq, Par, Loop, Trap}
+use Rattle.hh_term.specs.Statement.{Exit, Local, Async}
 use Rattle.hh_term.specs.Kernel.{Kernel, AsyncSite, first_at}
 
 abbrev pub size_of_optional : Option Expression → ℕ
@@ -22,7 +23,9 @@ handler_blocks (Some t) = text_blocks t
 -- the arguments and the handlers of an async site
 abbrev pub size_of_site : Option AsyncSite → ℕ
 size_of_site None = 0
-size_of_site (Some a) = sum_by size_of_expression a.args + handler_blocks a.kill + handler_blocks a.suspend + handler_blocks a.resume
+size_of_site (Some a) =
+    sum_by size_of_expression a.args + handler_blocks a.kill + handler_blocks a.suspend
+    + handler_blocks a.resume
 
 -- one for each node, with its expressions; a local's first value counts at its node
 abbrev pub size_of : Kernel → Statement → ℕ

@@ -1,4 +1,5 @@
--- The kernel statements, without where they lie in memory. (Berry, The Constructive Semantics of Pure Esterel: eleven
+-- The kernel statements, without where they lie in memory. (Berry, The Constructive Semantics of Pure
+-- Esterel: eleven
 -- statements; `Async` is after HipHop.js.)
 use Rattle.std.specs.Prelude.{ℕ, Option}
 use Rattle.host_expr.specs.Expression.{Expression}

@@ -1,7 +1,10 @@
--- What a statement does where all is decided: emissions, code, next mark, touches, faults and doubled signals. Undefined (`None`)
--- where the status or the value of a local signal that it meets is left unknown. (Berry's constructive behaviour; what it says of
+-- What a statement does where all is decided: emissions, code, next mark, touches, faults and doubled
+-- signals. Undefined (`None`)
+-- where the status or the value of a local signal that it meets is left unknown. (Berry's constructive
+-- behaviour; what it says of
 -- async, of local marks, touches, faults and doubled signals is this project's own.)
-use Rattle.std.specs.Prelude.{ℕ, ◌+◌, Bool, true, false, cond, ◌&&◌, ◌==◌, max, Option, Some, None, List, [], ◌∷◌, ◌++◌, map, zip}
+use Rattle.std.specs.Prelude.{ℕ, ◌+◌, Bool, true, false, cond, ◌&&◌, ◌==◌, max, Option, Some, None, List}
+use Rattle.std.specs.Prelude.{[], ◌∷◌, ◌++◌, map, zip}
 use Rattle.hh_base.specs.declared.value.Pos.{Pos}
 use Rattle.hh_base.specs.declared.value.Kind.{Kind}
 use Rattle.hh_base.specs.declared.value.Value.{Value}
@@ -14,9 +17,12 @@ use Rattle.host_expr.specs.declared.cell.SigCell.{SigCell}
 use Rattle.host_expr.specs.Environment.{Env, is_known, is_decided, is_present, unsolved, put}
 use Rattle.host_expr.specs.Evaluation.{eval_of, truth}
 use Rattle.host_expr.specs.Combination.{counts_as, is_several, is_overflowed}
-use Rattle.hh_term.specs.Statement.{Statement, Nothing, Pause, Emit, If, Suspend, Seq, Par, Loop, Trap, Exit, Local, Async}
-use Rattle.hh_term.specs.Selection.{Selection, AtPause, AtAsync, First, Second, Both, Inside, Scope, Task, Start, Resume}
-use Rattle.hh_term.specs.MustCan.{Table, MustCan, Bag, Executed, must_can, solve, cells_of, without, emitted, answer_bag, all_known, lower}
+use Rattle.hh_term.specs.Statement.{Statement, Nothing, Pause, Emit, If, Suspend, Seq, Par, Loop, Trap}
+use Rattle.hh_term.specs.Statement.{Exit, Local, Async}
+use Rattle.hh_term.specs.Selection.{Selection, AtPause, AtAsync, First, Second, Both, Inside, Scope, Task}
+use Rattle.hh_term.specs.Selection.{Start, Resume}
+use Rattle.hh_term.specs.MustCan.{Table, MustCan, Bag, Executed, must_can, solve, cells_of, without}
+use Rattle.hh_term.specs.MustCan.{emitted, answer_bag, all_known, lower}
 use Rattle.hh_term.specs.Touches.{Touch, stopped, held_mark, held_touches}
 
 pub record Stepped : Type 0 where
@@ -90,11 +96,14 @@ on_test (cell.Faulted o k) p q = q >>= (λ a. Some (with_fault (cell.Faulted o k
 abbrev pub emit_step : ℕ → Cell → Option Stepped
 emit_step s cell.Unknown = None
 emit_step s (cell.Known v) = Some (record (completes 0) { bag = (s, cell.Known v) ∷ [] })
-emit_step s (cell.Faulted p k) = Some (record (completes 0) { bag = (s, cell.Faulted p k) ∷ []; faults = (p, k) ∷ [] })
+emit_step s (cell.Faulted p k) =
+    Some (record (completes 0) { bag = (s, cell.Faulted p k) ∷ []; faults = (p, k) ∷ [] })
 
 -- where the first ends, the second is started; the wrappings are of their marks
-abbrev pub then_start : (Selection → Selection) → (Selection → Selection) → Option Stepped → Option Stepped → Option Stepped
-then_start f g p q = p >>= (λ a. cond (a.code == 0) (q >>= (λ b. Some (joined a (wrapped g b)))) (Some (wrapped f a)))
+abbrev pub then_start : (Selection → Selection) → (Selection → Selection) → Option Stepped
+    → Option Stepped → Option Stepped
+then_start f g p q =
+    p >>= (λ a. cond (a.code == 0) (q >>= (λ b. Some (joined a (wrapped g b)))) (Some (wrapped f a)))
 
 -- what is said of a signal where its scope is left
 abbrev pub doubled_by : Table → ℕ → List Value → List ℕ
@@ -125,7 +134,8 @@ scope_mark c m = Scope m (is_present c.status) (value_in c.preval c.value)
 abbrev pub local_step : Table → ℕ → (Env → MustCan) → (Env → Option Stepped) → Env → SigCell → Option Stepped
 local_step T s p q E c =
     let d = solve T s p E c in
-    cond (is_decided d.status && is_known d.value) (q (put E s d) >>= (λ a. Some (leave T s (wrapped (scope_mark d) a)))) None
+    cond (is_decided d.status && is_known d.value)
+    (q (put E s d) >>= (λ a. Some (leave T s (wrapped (scope_mark d) a)))) None
 
 abbrev pub add_faults : List Cell → Stepped → Stepped
 add_faults [] a = a
@@ -138,24 +148,66 @@ argument_value p = counts_as p.0 p.1
 abbrev pub start_async : ℕ → List Value → Stepped
 start_async n args =
     rests (AtAsync 0 args [] false)
-    (record { site = n; id = 0; started = Some args; used = false; ended = false; held = false; resumed = false; runs_after = true } ∷ [])
+    (record {
+      site = n;
+      id = 0;
+      started = Some args;
+      used = false;
+      ended = false;
+      held = false;
+      resumed = false;
+      runs_after = true;
+    } ∷ [])
 
 abbrev pub async_step : Table → ℕ → List Cell → Option Stepped
-async_step T n cs = cond (all_known cs) (Some (add_faults cs (start_async n (map argument_value (zip (T.params n) cs))))) None
+async_step T n cs =
+    cond (all_known cs)
+    (Some (add_faults cs (start_async n (map argument_value (zip (T.params n) cs))))) None
 
--- where the first answer is the last the instance ends, else it runs on without that answer and without the flag
+-- where the first answer is the last the instance ends, else it runs on without that answer and without
+-- the flag
 abbrev pub answer_step : Table → ℕ → ℕ → List Value → Bool → List Item → Stepped
 answer_step T n id args true rest =
-    record (completes 0) { touches = record { site = n; id = id; started = None; used = false; ended = true; held = false; resumed = true; runs_after = false } ∷ [] }
+    record (completes 0) {
+      touches = record {
+        site = n;
+        id = id;
+        started = None;
+        used = false;
+        ended = true;
+        held = false;
+        resumed = true;
+        runs_after = false;
+      } ∷ [];
+    }
 answer_step T n id args false rest =
     rests (AtAsync id args rest false)
-    (record { site = n; id = id; started = None; used = true; ended = false; held = false; resumed = true; runs_after = true } ∷ [])
+    (record {
+      site = n;
+      id = id;
+      started = None;
+      used = true;
+      ended = false;
+      held = false;
+      resumed = true;
+      runs_after = true;
+    } ∷ [])
 
 abbrev pub resume_async : Table → ℕ → ℕ → List Value → List Item → Stepped
 resume_async T n id args [] =
     rests (AtAsync id args [] false)
-    (record { site = n; id = id; started = None; used = false; ended = false; held = false; resumed = true; runs_after = true } ∷ [])
-resume_async T n id args (a ∷ rest) = record (answer_step T n id args a.last rest) { bag = answer_bag (T.target n) a.value }
+    (record {
+      site = n;
+      id = id;
+      started = None;
+      used = false;
+      ended = false;
+      held = false;
+      resumed = true;
+      runs_after = true;
+    } ∷ [])
+resume_async T n id args (a ∷ rest) =
+    record (answer_step T n id args a.last rest) { bag = answer_bag (T.target n) a.value }
 
 abbrev pub step : Table → Statement → Task → Env → Option Stepped
 step T Nothing t E = Some (completes 0)
@@ -163,24 +215,30 @@ step T Pause Start E = Some (rests AtPause [])
 step T Pause (Resume m) E = Some (completes 0)
 step T (Emit s e) t E = emit_step s (emitted e E)
 step T (Exit k) t E = Some (completes (k + 2))
-step T (If e p q) Start E = on_test (eval_of e E []) (wrap First (step T p Start E)) (wrap Second (step T q Start E))
+step T (If e p q) Start E =
+    on_test (eval_of e E []) (wrap First (step T p Start E)) (wrap Second (step T q Start E))
 step T (If e p q) (Resume (First m)) E = wrap First (step T p (Resume m) E)
 step T (If e p q) (Resume (Second m)) E = wrap Second (step T q (Resume m) E)
 step T (Suspend e p) Start E = wrap Inside (step T p Start E)
-step T (Suspend e p) (Resume (Inside m)) E = on_test (eval_of e E []) (Some (rests (Inside (held_mark m)) (held_touches p m))) (wrap Inside (step T p (Resume m) E))
+step T (Suspend e p) (Resume (Inside m)) E =
+    on_test (eval_of e E []) (Some (rests (Inside (held_mark m)) (held_touches p m)))
+    (wrap Inside (step T p (Resume m) E))
 step T (Seq p q) Start E = then_start First Second (step T p Start E) (step T q Start E)
 step T (Seq p q) (Resume (First m)) E = then_start First Second (step T p (Resume m) E) (step T q Start E)
 step T (Seq p q) (Resume (Second m)) E = wrap Second (step T q (Resume m) E)
 step T (Par p q) Start E = step T p Start E >>= (λ a. step T q Start E >>= (λ b. Some (beside a b)))
 step T (Par p q) (Resume (First m)) E = step T p (Resume m) E >>= (λ a. Some (beside a (completes 0)))
 step T (Par p q) (Resume (Second m)) E = step T q (Resume m) E >>= (λ b. Some (beside (completes 0) b))
-step T (Par p q) (Resume (Both m n)) E = step T p (Resume m) E >>= (λ a. step T q (Resume n) E >>= (λ b. Some (beside a b)))
+step T (Par p q) (Resume (Both m n)) E =
+    step T p (Resume m) E >>= (λ a. step T q (Resume n) E >>= (λ b. Some (beside a b)))
 step T (Loop p) Start E = wrap Inside (step T p Start E)
 step T (Loop p) (Resume (Inside m)) E = then_start Inside Inside (step T p (Resume m) E) (step T p Start E)
 step T (Trap p) Start E = step T p Start E >>= (λ a. Some (trap_step a))
 step T (Trap p) (Resume (Inside m)) E = step T p (Resume m) E >>= (λ a. Some (trap_step a))
-step T (Local s p) Start E = local_step T s (must_can T p Start Executed) (step T p Start) E (unsolved false (T.first s))
-step T (Local s p) (Resume (Scope m b v)) E = local_step T s (must_can T p (Resume m) Executed) (step T p (Resume m)) E (unsolved b v)
+step T (Local s p) Start E =
+    local_step T s (must_can T p Start Executed) (step T p Start) E (unsolved false (T.first s))
+step T (Local s p) (Resume (Scope m b v)) E =
+    local_step T s (must_can T p (Resume m) Executed) (step T p (Resume m)) E (unsolved b v)
 step T (Async n) Start E = async_step T n (map (λ e. eval_of e E []) (T.args n))
 step T (Async n) (Resume (AtAsync id args queue suspended)) E = Some (resume_async T n id args queue)
 step T _ _ E = None

@@ -1,5 +1,10 @@
--- The statement and the mark that a term and a mark of the code stand for.
+-- What the values of the code stand for: terms for statements, marks for selections, declarations with a
+-- term for kernel programs.
+use Rattle.std.specs.Prelude.{ℕ, List, map}
 use Rattle.host_expr.specs.Expression.{expression_of, optional_expression}
+use Rattle.hh_term.specs.declared.program.SignalDecl.{SignalDecl}
+use Rattle.hh_term.specs.declared.program.BodyDecl.{BodyDecl}
+use Rattle.hh_term.specs.declared.program.Site.{Site}
 use Rattle.hh_term.specs.declared.term.Term.{Term}
 use Rattle.hh_term.specs.declared.term.TermNode.{TermNode}
 use Rattle.hh_term.specs.declared.term.TermNode.TheVariants as term
@@ -7,8 +12,12 @@ use Rattle.hh_term.specs.declared.mark.Mark.{Mark}
 use Rattle.hh_term.specs.declared.mark.Mark.TheVariants as mark
 use Rattle.hh_term.specs.declared.mark.Control.{Control as AControl}
 use Rattle.hh_term.specs.declared.mark.Control.TheVariants as control
-use Rattle.hh_term.specs.Statement.{Statement, Nothing, Pause, Emit, If, Suspend, Seq, Par, Loop, Trap, Exit, Local, Async}
-use Rattle.hh_term.specs.Selection.{Selection, AtPause, AtAsync, First, Second, Both, Inside, Scope, Control, Fresh, At, Ended}
+use Rattle.hh_term.specs.declared.mark.Marked.{Marked}
+use Rattle.hh_term.specs.Statement.{Statement, Nothing, Pause, Emit, If, Suspend, Seq, Par, Loop, Trap}
+use Rattle.hh_term.specs.Statement.{Exit, Local, Async}
+use Rattle.hh_term.specs.Kernel.{Kernel, Body, AsyncSite}
+use Rattle.hh_term.specs.Selection.{Selection, AtPause, AtAsync, First, Second, Both, Inside, Scope}
+use Rattle.hh_term.specs.Selection.{Control, Fresh, At, Ended}
 
 abbrev pub node_statement : TermNode → Statement
 node_statement term.Nothing = Nothing
@@ -40,3 +49,37 @@ abbrev pub control_of : AControl → Control
 control_of control.Fresh = Fresh
 control_of (control.At m) = At (selection_of m)
 control_of control.Ended = Ended
+
+abbrev pub control_in : Marked → Control
+control_in m = control_of m.control
+
+abbrev pub body_of : BodyDecl → Body
+body_of b =
+    record {
+      name = b.name;
+      params = b.params;
+      answer = b.answer;
+      expr = optional_expression b.expr;
+      pos = b.pos;
+    }
+
+abbrev pub site_of : Site → AsyncSite
+site_of a =
+    record {
+      body = a.body;
+      signal = a.signal;
+      args = map expression_of a.args;
+      kill = a.kill;
+      suspend = a.suspend;
+      resume = a.resume;
+    }
+
+abbrev pub kernel_from : List SignalDecl → ℕ → List BodyDecl → List Site → Term → Kernel
+kernel_from signals interface bodies sites term =
+    record {
+      signals = signals;
+      interface = interface;
+      bodies = map body_of bodies;
+      sites = map site_of sites;
+      statement = statement_of term;
+    }

@@ -10,7 +10,8 @@ use crate::term::{Term, TermNode};
 /// A flag for each code: an exit's number is a byte, so no code is greater than 257.
 type Flags = [bool; 258];
 
-/// Whether the statement may end in the reaction in which it starts. Takes no memory.
+/// Whether the statement may end in the reaction in which it starts, so that no loop may have it for its
+/// body.
 pub fn may_end_now(term: &Term) -> bool
     ensures { result ≡ static_codes (statement_of term.now) 0 }
 {

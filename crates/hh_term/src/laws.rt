@@ -1,7 +1,9 @@
 //! Laws of Must, Can, Solve and Step. Each call does nothing; its contract is the law.
 
-ghost use Rattle.hh_term.specs.Lawful.{MustExtendsCanShrinks, MustIsWithinCan, NothingIsSureWherePossible, TwoRoundsStandStill};
-ghost use Rattle.hh_term.specs.Lawful.{StepHasTheBagOfMust, StepHasTheCodeOfMust, StartedCodesAreStatic, InterfaceStandsStill};
+ghost use Rattle.hh_term.specs.Lawful.{MustExtendsCanShrinks, MustIsWithinCan};
+ghost use Rattle.hh_term.specs.Lawful.{NothingIsSureWherePossible, TwoRoundsStandStill};
+ghost use Rattle.hh_term.specs.Lawful.{TermsAreUnplaced, ProgramsAreUnplaced, StepHasTheBagOfMust};
+ghost use Rattle.hh_term.specs.Lawful.{StepHasTheCodeOfMust, StartedCodesAreStatic, InterfaceStandsStill};
 
 /// Where the environment or the index knows more, Must extends and Can shrinks.
 pub fn knows_more()
@@ -33,4 +35,10 @@ pub fn step_is_must()
 /// The codes of a started statement lie in its static codes.
 pub fn started_codes()
     ensures { StartedCodesAreStatic }
+{}
+
+/// What the semantics sees of a term or a program is what is left without its positions.
+pub fn positions_aside()
+    ensures terms { TermsAreUnplaced }
+    ensures programs { ProgramsAreUnplaced }
 {}

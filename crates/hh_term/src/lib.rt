@@ -3,6 +3,7 @@
 
 pub mod codes;
 pub mod laws;
+pub mod limits;
 pub mod mark;
 pub mod program;
 pub mod term;

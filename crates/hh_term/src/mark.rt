@@ -32,6 +32,7 @@ impl AsyncMark {
         }
     }
 
+    /// A copy, with the arguments and the answers that wait.
     pub fn copy(&self, alloc: Global) -> Result<AsyncMark, NoMemory>
         ensures { IfOk result (λ a. a ≡ self.now) }
     {
@@ -71,7 +72,8 @@ impl Mark {
     ghost use Rattle.hh_term.specs.Entering.{with_item, Enters};
 
     fn enter(&mut self, id: u64, item: Item) -> Result<(), MarkEnd>
-        ensures { Enters (with_item id item (selection_of self.old)) (selection_of self.old) item result (selection_of self.new) }
+        ensures { Enters (with_item id item (selection_of self.old)) (selection_of self.old) item result
+            (selection_of self.new) }
     {
         match self {
             Mark::Pause => Err(MarkEnd::Refused(item)),
@@ -87,6 +89,7 @@ impl Mark {
         }
     }
 
+    /// A copy, with the instances and the statuses and values of local signals in it.
     pub fn copy(&self, alloc: Global) -> Result<Mark, NoMemory>
         ensures { IfOk result (λ m. selection_of m ≡ selection_of self.now) }
     {
@@ -119,6 +122,7 @@ pub enum Control {
 impl Control {
     ghost use Rattle.hh_term.specs.Views.{control_of};
 
+    /// A copy, with the mark.
     pub fn copy(&self, alloc: Global) -> Result<Control, NoMemory>
         ensures { IfOk result (λ c. control_of c ≡ control_of self.now) }
     {
@@ -138,14 +142,14 @@ pub struct Marked {
 
 impl Marked {
     ghost use Rattle.hh_term.specs.Kernel.{Kernel};
-    ghost use Rattle.hh_term.specs.Viewed.{kernel_of};
+    ghost use Rattle.hh_term.specs.ProgramView.{kernel_of};
     ghost use Rattle.hh_term.specs.Views.{control_of};
     ghost use Rattle.hh_term.specs.Marks.{IsControlOf, IdsDiffer};
     ghost use Rattle.hh_term.specs.Selection.{Fresh};
-    ghost use Rattle.hh_term.specs.ControlIn.{control_in};
+    ghost use Rattle.hh_term.specs.Views.{control_in};
     ghost use Rattle.hh_term.specs.Entering.{control_with_item, Enters};
 
-    /// A program that has not started. Takes no memory.
+    /// Where a program stands before its first reaction.
     pub fn boot(_program: &Program) -> Marked
         ensures { control_in result ≡ Fresh }
     {
@@ -154,7 +158,7 @@ impl Marked {
         }
     }
 
-    /// A program whose control rests there. Takes no memory.
+    /// Where a program stands whose control was kept, as between two reactions.
     pub fn new(_program: &Program, control: Control) -> Marked
         requires of_program { ∥ IsControlOf (kernel_of _program.now).statement (control_of control) ∥₁ }
         requires ids_differ { ∥ IdsDiffer (control_of control) ∥₁ }
@@ -163,12 +167,14 @@ impl Marked {
         Marked { control }
     }
 
+    /// Whether the program has started or ended, and else where its control rests.
     pub fn control(&self) -> &Control
         ensures { control_of result.now ≡ control_in self.now }
     {
         &self.control
     }
 
+    /// A copy that further reactions and answers leave as it is.
     pub fn copy(&self, alloc: Global) -> Result<Marked, NoMemory>
         ensures { IfOk result (λ m. control_in m ≡ control_in self.now) }
     {
@@ -180,7 +186,8 @@ impl Marked {
     /// Puts the item at the end of the queue of the async mark that holds the id, or gives it back and
     /// leaves all marks as they were.
     pub fn answer(&mut self, id: u64, item: Item) -> Result<(), MarkEnd>
-        ensures { Enters (control_with_item id item (control_in self.old)) (control_in self.old) item result (control_in self.new) }
+        ensures { Enters (control_with_item id item (control_in self.old))
+            (control_in self.old) item result (control_in self.new) }
     {
         match &mut self.control {
             Control::At(mark) => mark.enter(id, item),

@@ -1,7 +1,7 @@
 //! Kernel programs with their declarations.
 
 ghost use Rattle.std.specs.Prelude.{◌≡◌, IfOk};
-ghost use Rattle.hh_term.specs.Assembled.{kernel_from};
+ghost use Rattle.hh_term.specs.Views.{kernel_from};
 ghost use Rattle.hh_term.specs.IsProgram.{IsProgram};
 
 use crate::term::Term;
@@ -9,8 +9,8 @@ use hh_base::name::Name;
 use hh_base::text::Text;
 use hh_base::value::{CombineWord, Dir, Kind, NoMemory, Pos, Value};
 use host_expr::expr::Expr;
+use sqlite_items::Items;
 use std::alloc::Global;
-use std::marker::Model;
 
 /// A signal. `first` is its value before any emission.
 #[derive(Drop)]
@@ -24,6 +24,7 @@ pub struct SignalDecl {
 }
 
 impl SignalDecl {
+    /// A copy, its name and its first value included.
     pub fn copy(&self, alloc: Global) -> Result<SignalDecl, NoMemory>
         ensures { IfOk result (λ d. d ≡ self.now) }
     {
@@ -53,34 +54,7 @@ fn copy_signals(alloc: Global, signals: &[SignalDecl]) -> Result<Vec<SignalDecl>
 }
 
 /// Kinds in order. Contracts see the list.
-#[derive(Drop)]
-pub struct Kinds {
-    kinds: Vec<Kind>,
-}
-
-impl Kinds {
-    /// Takes no memory.
-    pub fn from_vec(kinds: Vec<Kind>) -> Kinds
-        ensures { result ≡ kinds.items }
-    {
-        Kinds { kinds }
-    }
-
-    pub fn as_slice(&self) -> &[Kind]
-        ensures { result.now ≡ self.now }
-    {
-        &self.kinds
-    }
-}
-
-impl Model for Kinds {
-    ghost use Rattle.std.specs.Prelude.{List};
-    ghost use Rattle.hh_base.specs.declared.value.Kind.{Kind as AKind};
-
-    ghost Value = { List AKind };
-
-    ghost view = { λ k. k.kinds.items };
-}
+pub type Kinds = Items<Kind>;
 
 /// What an async statement runs: a written expression over its parameters, or a hook of the host (`None`).
 #[derive(Drop)]
@@ -98,7 +72,7 @@ pub struct BodyDecl {
 pub struct Site {
     pub body: u32,
     pub signal: Option<u32>,
-    pub args: Vec<Expr<u32>>,
+    pub args: Items<Expr<u32>>,
     pub kill: Option<Text>,
     pub suspend: Option<Text>,
     pub resume: Option<Text>,
@@ -116,45 +90,21 @@ pub struct Program {
     pub ghost rules: { ∥ IsProgram (kernel_from signals.items interface bodies.items sites.items term) ∥₁ },
 }
 
-/// The interface of a program: its signals in order. Contracts see the list.
-#[derive(Drop)]
-pub struct Interface {
-    signals: Vec<SignalDecl>,
-}
-
-impl Model for Interface {
-    ghost use Rattle.std.specs.Prelude.{List};
-    ghost use Rattle.hh_term.specs.declared.program.SignalDecl.{SignalDecl as ASignal};
-
-    ghost Value = { List ASignal };
-
-    ghost view = { λ i. i.signals.items };
-}
-
-impl Interface {
-    /// Takes no memory.
-    pub fn from_vec(signals: Vec<SignalDecl>) -> Interface
-        ensures { result ≡ signals.items }
-    {
-        Interface { signals }
-    }
-
-    pub fn signals(&self) -> &[SignalDecl]
-        ensures { result.now ≡ self.now }
-    {
-        &self.signals
-    }
-}
+/// Signals in order, as those of an interface. Contracts see the list.
+pub type Signals = Items<SignalDecl>;
 
 impl Program {
     ghost use Rattle.std.specs.Prelude.{map};
     ghost use Rattle.hh_term.specs.Kernel.{Kernel};
-    ghost use Rattle.hh_term.specs.Assembled.{body_of, site_of};
+    ghost use Rattle.hh_term.specs.Views.{body_of, site_of};
     ghost use Rattle.hh_term.specs.Views.{statement_of};
-    ghost use Rattle.hh_term.specs.Viewed.{kernel_of};
+    ghost use Rattle.hh_term.specs.Placed.{placed_term, placed_from};
+    ghost use Rattle.hh_term.specs.ProgramView.{kernel_of, placed_of};
     ghost use Rattle.hh_term.specs.IsProgram.{interface_of};
 
-    /// The program of these declarations and this statement. Takes no memory.
+    /// The program of these declarations and this statement. The first `interface` signals are its interface,
+    /// the others its locals in the order of the statement; a node names signals, bodies and sites by their
+    /// places in these lists.
     pub fn new(
         signals: Vec<SignalDecl>,
         interface: u32,
@@ -163,7 +113,10 @@ impl Program {
         term: Term,
     ) -> Program
         requires { ∥ IsProgram (kernel_from signals.items interface bodies.items sites.items term) ∥₁ }
-        ensures { kernel_of result ≡ kernel_from signals.items interface bodies.items sites.items term }
+        ensures kernel { kernel_of result
+            ≡ kernel_from signals.items interface bodies.items sites.items term }
+        ensures placed { placed_of result
+            ≡ placed_from signals.items interface bodies.items sites.items term }
     {
         Program {
             signals,
@@ -188,31 +141,35 @@ impl Program {
         self.interface
     }
 
+    /// The bodies that its async sites name by their places.
     pub fn bodies(&self) -> &[BodyDecl]
-        ensures { map body_of result.now ≡ (kernel_of self.now).bodies }
+        ensures kernel { map body_of result.now ≡ (kernel_of self.now).bodies }
+        ensures placed { result.now ≡ (placed_of self.now).bodies }
     {
         &self.bodies
     }
 
+    /// The async sites, in the order of the statement.
     pub fn sites(&self) -> &[Site]
-        ensures { map site_of result.now ≡ (kernel_of self.now).sites }
+        ensures kernel { map site_of result.now ≡ (kernel_of self.now).sites }
+        ensures placed { result.now ≡ (placed_of self.now).sites }
     {
         &self.sites
     }
 
+    /// The statement, whose nodes have the positions that they had in the input.
     pub fn term(&self) -> &Term
-        ensures { statement_of result.now ≡ (kernel_of self.now).statement }
+        ensures kernel { statement_of result.now ≡ (kernel_of self.now).statement }
+        ensures placed { placed_term result.now ≡ (placed_of self.now).statement }
     {
         &self.term
     }
 
-    /// The declarations of the interface.
-    pub fn interface(&self, alloc: Global) -> Result<Interface, NoMemory>
+    /// A copy of the declarations of the interface, in its order.
+    pub fn interface(&self, alloc: Global) -> Result<Signals, NoMemory>
         ensures { IfOk result (λ i. i ≡ interface_of (kernel_of self.now)) }
     {
         let signals = &self.signals[..self.interface as usize];
-        Ok(Interface {
-            signals: copy_signals(alloc, signals)?,
-        })
+        Ok(Items::from_vec(copy_signals(alloc, signals)?))
     }
 }

@@ -15,7 +15,7 @@ use Rattle.hh_term.specs.declared.program.SignalDecl.{SignalDecl}
 use Rattle.hh_term.specs.FirstLanguage.{HasDirection}
 use Rattle.hh_term.specs.IsProgram.{IsProgram}
 use Rattle.hh_term.specs.Kernel.{Kernel}
-use Rattle.hh_term.specs.Viewed.{kernel_of}
+use Rattle.hh_term.specs.ProgramView.{kernel_of}
 use Rattle.first_language.specs.Programs.{Spells}
 use Rattle.scenario.specs.Interface.{HasNames, is_input, is_input_at}
 use Rattle.scenario.specs.Scenario.{AreInputs, AreLines, IsScenario, spelling}

@@ -4,7 +4,7 @@ ghost use Rattle.std.specs.Prelude.{◌≡◌, ◌<◌, ◌≤◌, ◌^◌, ◌�
 ghost use Rattle.std.specs.Io.KnownBytes.{Appends};
 ghost use Rattle.std.specs.List.{AllByRecursion};
 ghost use Rattle.hh_term.specs.FirstLanguage.{IsFirstLanguage};
-ghost use Rattle.hh_term.specs.Viewed.{kernel_of};
+ghost use Rattle.hh_term.specs.ProgramView.{kernel_of};
 ghost use Rattle.scenario.specs.Scenario.{inputs_of_line};
 ghost use Rattle.hiphop_main.specs.declared.ending.Cause.{Cause as ACause};
 ghost use Rattle.hiphop_main.specs.declared.ending.Cause.TheVariants.{Fine, NoMemory as OutOfMemory};

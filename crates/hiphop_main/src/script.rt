@@ -3,7 +3,7 @@
 ghost use Rattle.std.specs.Prelude.{◌≡◌, ◌<◌, ◌≤◌, ◌^◌, length, map, IfOk, IsErrOf};
 ghost use Rattle.std.specs.List.{AllByRecursion};
 ghost use Rattle.hh_term.specs.FirstLanguage.{IsFirstLanguage};
-ghost use Rattle.hh_term.specs.Viewed.{kernel_of};
+ghost use Rattle.hh_term.specs.ProgramView.{kernel_of};
 ghost use Rattle.scenario.specs.Interface.{HasNames};
 ghost use Rattle.scenario.specs.Scenario.{inputs_of_line};
 ghost use Rattle.hiphop_main.specs.Play.{AreGiven, IsNotBuilt, IsOnlyInput, input_limit};

@@ -13,14 +13,22 @@ use Rattle.host_expr.specs.declared.cell.Cell.TheVariants as cell
 use Rattle.host_expr.specs.declared.expr.Op.{Op}
 use Rattle.host_expr.specs.declared.expr.Op.TheVariants.{Add, Sub, Mul, Div, Rem}
 use Rattle.host_expr.specs.declared.expr.Rel.TheVariants.{Eq, Ne, Lt, Le, Gt}
-use Rattle.host_expr.specs.Expression.{Expression, Int, Flag, Text, Now, Pre, NowVal, PreVal, Arg, Not, Neg, Arith, Compare, And, Or, Choose}
+use Rattle.host_expr.specs.Expression.{Expression, Int, Flag, Text, Now, Pre, NowVal, PreVal, Arg, Not}
+use Rattle.host_expr.specs.Expression.{Neg, Arith, Compare, And, Or, Choose}
 use Rattle.host_expr.specs.Environment.{Env, unsolved, put, blank}
 use Rattle.host_expr.specs.Evaluation.{eval_of}
 use Rattle.host_expr.specs.Combination.{combined, is_several, is_overflowed}
 
--- signal 0 is unknown, was present before, and had the value 3; signal 1 is present with the value 5; an argument is 8
+-- signal 0 is unknown, was present before, and had the value 3; signal 1 is present with the value 5; an
+-- argument is 8
 abbrev signals : Env
-signals = put (put blank 0 (unsolved true (value.Int (pos 3)))) 1 (record { status = One; value = cell.Known (value.Int (pos 5)); pre = false; preval = value.Int (pos 0) })
+signals = put (put blank 0 (unsolved true (value.Int (pos 3)))) 1
+    (record {
+      status = One;
+      value = cell.Known (value.Int (pos 5));
+      pre = false;
+      preval = value.Int (pos 0);
+    })
 
 abbrev evaluated : Expression → Cell
 evaluated e = eval_of e signals (value.Int (pos 8) ∷ [])
@@ -61,7 +69,8 @@ waits_for_both_choices = refl
 
 -- ---- what is taken
 
-skips_a_conjunct : evaluated (And (Flag false) (Compare Eq (at 1 Div (pos 1) (pos 0)) (Int (pos 1)))) ≡ flag false
+skips_a_conjunct : evaluated (And (Flag false) (Compare Eq (at 1 Div (pos 1) (pos 0)) (Int (pos 1))))
+    ≡ flag false
 skips_a_conjunct = refl
 
 skips_a_disjunct : evaluated (Or (Now 1) (Compare Eq (at 1 Div (pos 1) (pos 0)) (Int (pos 1)))) ≡ flag true
@@ -153,16 +162,19 @@ least_of_all = refl
 greatest_of_all : combined kind.Int (Some word.Max) some_numbers ≡ value.Int (pos 9)
 greatest_of_all = refl
 
-conjunction_of_all : combined kind.Bool (Some word.And) (value.Bool true ∷ value.Bool false ∷ []) ≡ value.Bool false
+conjunction_of_all : combined kind.Bool (Some word.And) (value.Bool true ∷ value.Bool false ∷ [])
+    ≡ value.Bool false
 conjunction_of_all = refl
 
-disjunction_of_all : combined kind.Bool (Some word.Or) (value.Bool true ∷ value.Bool false ∷ []) ≡ value.Bool true
+disjunction_of_all : combined kind.Bool (Some word.Or) (value.Bool true ∷ value.Bool false ∷ [])
+    ≡ value.Bool true
 disjunction_of_all = refl
 
 one_is_itself : combined kind.Text None (value.Text (97 ∷ []) ∷ []) ≡ value.Text (97 ∷ [])
 one_is_itself = refl
 
-several_count_as_default : combined kind.Text None (value.Text (97 ∷ []) ∷ value.Text (98 ∷ []) ∷ []) ≡ value.Text []
+several_count_as_default : combined kind.Text None (value.Text (97 ∷ []) ∷ value.Text (98 ∷ []) ∷ [])
+    ≡ value.Text []
 several_count_as_default = refl
 
 several_are_marked : is_several kind.Text None (value.Text (97 ∷ []) ∷ value.Text (98 ∷ []) ∷ []) ≡ true
@@ -179,5 +191,6 @@ overflow_counts_as_default :
     ≡ value.Int (pos 0)
 overflow_counts_as_default = refl
 
-greatest_does_not_overflow : is_overflowed (Some word.Max) (value.Int greatest ∷ value.Int greatest ∷ []) ≡ false
+greatest_does_not_overflow : is_overflowed (Some word.Max) (value.Int greatest ∷ value.Int greatest ∷ [])
+    ≡ false
 greatest_does_not_overflow = refl

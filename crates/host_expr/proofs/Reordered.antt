@@ -1,5 +1,6 @@
 -- Combining does not see the order of the emissions.
-use Rattle.std.proofs.Common.{◌≡◌, refl, ap, ◌∙◌, Bool, true, false, cond, ◌&&◌, ◌||◌, Option, Some, None, List, [], ◌∷◌, arith}
+use Rattle.std.proofs.Common.{◌≡◌, refl, ap, ◌∙◌, Bool, true, false, cond, ◌&&◌, ◌||◌, Option, Some, None}
+use Rattle.std.proofs.Common.{List, [], ◌∷◌, arith}
 use Rattle.std.specs.Prelude.{ℤ, pos, ◌+ℤ◌, if◌then◌else◌}
 use Rattle.std.specs.Int.{int_min, int_max}
 use Rattle.std.proofs.lemmas.Int.{ints}
@@ -8,8 +9,11 @@ use Rattle.hh_base.specs.declared.value.Value.{Value}
 use Rattle.hh_base.specs.declared.value.Value.TheVariants as value
 use Rattle.hh_base.specs.declared.value.CombineWord.{CombineWord}
 use Rattle.hh_base.specs.declared.value.CombineWord.TheVariants as word
-use Rattle.host_expr.specs.Combination.{in_range, numbers_in, truths_in, whole_sum, least_of, greatest_of, all_of, any_of, number_or_zero, combined_by, combined, is_several, is_overflowed}
-use Rattle.host_expr.specs.Reordering.{Reordering, none, keep, swap, after, CombinedInAnyOrder, SeveralInAnyOrder, OverflowedInAnyOrder}
+use Rattle.host_expr.specs.Combination.{in_range, numbers_in, truths_in, whole_sum, least_of, greatest_of}
+use Rattle.host_expr.specs.Combination.{all_of, any_of, number_or_zero, combined_by, combined, is_several}
+use Rattle.host_expr.specs.Combination.{is_overflowed}
+use Rattle.host_expr.specs.Reordering.{Reordering, none, keep, swap, after, CombinedInAnyOrder}
+use Rattle.host_expr.specs.Reordering.{SeveralInAnyOrder, OverflowedInAnyOrder}
 
 -- ---- operations that may be swapped
 
@@ -70,36 +74,43 @@ greatest_turn m n (k ∷ ns) = greatest_swap m n (greatest_of k ns)
 least_same : {xs ys : List ℤ} (m : ℤ) → Reordering xs ys → least_of m xs ≡ least_of m ys
 least_same m none = refl
 least_same m (keep x p) = ap (int_min m) (least_same x p)
-least_same m (swap {xs = xs} x y p) = ap (int_min m) (least_turn x y xs ∙ ap (λ z. int_min y z) (least_same x p))
+least_same m (swap {xs = xs} x y p) =
+    ap (int_min m) (least_turn x y xs ∙ ap (λ z. int_min y z) (least_same x p))
 least_same m (after p q) = least_same m p ∙ least_same m q
 
 greatest_same : {xs ys : List ℤ} (m : ℤ) → Reordering xs ys → greatest_of m xs ≡ greatest_of m ys
 greatest_same m none = refl
 greatest_same m (keep x p) = ap (int_max m) (greatest_same x p)
-greatest_same m (swap {xs = xs} x y p) = ap (int_max m) (greatest_turn x y xs ∙ ap (λ z. int_max y z) (greatest_same x p))
+greatest_same m (swap {xs = xs} x y p) =
+    ap (int_max m) (greatest_turn x y xs ∙ ap (λ z. int_max y z) (greatest_same x p))
 greatest_same m (after p q) = greatest_same m p ∙ greatest_same m q
 
 least_number : {xs ys : List ℤ} → Reordering xs ys → number_or_zero least_of xs ≡ number_or_zero least_of ys
 least_number none = refl
 least_number (keep x p) = ap (λ z. value.Int z) (least_same x p)
-least_number (swap {xs = xs} x y p) = ap (λ z. value.Int z) (least_turn x y xs ∙ ap (λ z. int_min y z) (least_same x p))
+least_number (swap {xs = xs} x y p) =
+    ap (λ z. value.Int z) (least_turn x y xs ∙ ap (λ z. int_min y z) (least_same x p))
 least_number (after p q) = least_number p ∙ least_number q
 
-greatest_number : {xs ys : List ℤ} → Reordering xs ys → number_or_zero greatest_of xs ≡ number_or_zero greatest_of ys
+greatest_number : {xs ys : List ℤ} → Reordering xs ys
+    → number_or_zero greatest_of xs ≡ number_or_zero greatest_of ys
 greatest_number none = refl
 greatest_number (keep x p) = ap (λ z. value.Int z) (greatest_same x p)
-greatest_number (swap {xs = xs} x y p) = ap (λ z. value.Int z) (greatest_turn x y xs ∙ ap (λ z. int_max y z) (greatest_same x p))
+greatest_number (swap {xs = xs} x y p) =
+    ap (λ z. value.Int z) (greatest_turn x y xs ∙ ap (λ z. int_max y z) (greatest_same x p))
 greatest_number (after p q) = greatest_number p ∙ greatest_number q
 
 -- ---- the numbers and the truths of a reordered list are reordered
 
-numbers_keep : (x : Value) (vs us : List Value) → Reordering (numbers_in vs) (numbers_in us) → Reordering (numbers_in (x ∷ vs)) (numbers_in (x ∷ us))
+numbers_keep : (x : Value) (vs us : List Value) → Reordering (numbers_in vs) (numbers_in us)
+    → Reordering (numbers_in (x ∷ vs)) (numbers_in (x ∷ us))
 numbers_keep (value.Int n) vs us p = keep n p
 numbers_keep value.Unit vs us p = p
 numbers_keep (value.Bool b) vs us p = p
 numbers_keep (value.Text t) vs us p = p
 
-numbers_swap : (x y : Value) (vs us : List Value) → Reordering (numbers_in vs) (numbers_in us) → Reordering (numbers_in (x ∷ y ∷ vs)) (numbers_in (y ∷ x ∷ us))
+numbers_swap : (x y : Value) (vs us : List Value) → Reordering (numbers_in vs) (numbers_in us)
+    → Reordering (numbers_in (x ∷ y ∷ vs)) (numbers_in (y ∷ x ∷ us))
 numbers_swap (value.Int m) (value.Int n) vs us p = swap m n p
 numbers_swap (value.Int m) value.Unit vs us p = keep m p
 numbers_swap (value.Int m) (value.Bool b) vs us p = keep m p
@@ -114,13 +125,15 @@ numbers_reordered (keep {xs = vs} {ys = us} x p) = numbers_keep x vs us (numbers
 numbers_reordered (swap {xs = vs} {ys = us} x y p) = numbers_swap x y vs us (numbers_reordered p)
 numbers_reordered (after p q) = after (numbers_reordered p) (numbers_reordered q)
 
-truths_keep : (x : Value) (vs us : List Value) → Reordering (truths_in vs) (truths_in us) → Reordering (truths_in (x ∷ vs)) (truths_in (x ∷ us))
+truths_keep : (x : Value) (vs us : List Value) → Reordering (truths_in vs) (truths_in us)
+    → Reordering (truths_in (x ∷ vs)) (truths_in (x ∷ us))
 truths_keep (value.Bool b) vs us p = keep b p
 truths_keep value.Unit vs us p = p
 truths_keep (value.Int n) vs us p = p
 truths_keep (value.Text t) vs us p = p
 
-truths_swap : (x y : Value) (vs us : List Value) → Reordering (truths_in vs) (truths_in us) → Reordering (truths_in (x ∷ y ∷ vs)) (truths_in (y ∷ x ∷ us))
+truths_swap : (x y : Value) (vs us : List Value) → Reordering (truths_in vs) (truths_in us)
+    → Reordering (truths_in (x ∷ y ∷ vs)) (truths_in (y ∷ x ∷ us))
 truths_swap (value.Bool a) (value.Bool b) vs us p = swap a b p
 truths_swap (value.Bool a) value.Unit vs us p = keep a p
 truths_swap (value.Bool a) (value.Int n) vs us p = keep a p
@@ -170,7 +183,8 @@ shape (after p q) = shape_after (shape p) (shape q)
 pub combined_in_any_order : CombinedInAnyOrder
 combined_in_any_order k w vs us p = by_shape k w (shape p) p
   where
-    by_shape : (k : Kind) (w : Option CombineWord) {vs us : List Value} → Shape vs us → Reordering vs us → combined k w vs ≡ combined k w us
+    by_shape : (k : Kind) (w : Option CombineWord) {vs us : List Value} → Shape vs us → Reordering vs us
+        → combined k w vs ≡ combined k w us
     by_shape k w empty p = refl
     by_shape k w (single v) p = refl
     by_shape k None (several v w x y vs us) p = refl
@@ -179,7 +193,8 @@ combined_in_any_order k w vs us p = by_shape k w (shape p) p
 pub several_in_any_order : SeveralInAnyOrder
 several_in_any_order k w vs us p = by_shape k w (shape p)
   where
-    by_shape : (k : Kind) (w : Option CombineWord) {vs us : List Value} → Shape vs us → is_several k w vs ≡ is_several k w us
+    by_shape : (k : Kind) (w : Option CombineWord) {vs us : List Value} → Shape vs us
+        → is_several k w vs ≡ is_several k w us
     by_shape k w empty = refl
     by_shape k w (single v) = refl
     by_shape k None (several v w x y vs us) = refl
@@ -188,11 +203,13 @@ several_in_any_order k w vs us p = by_shape k w (shape p)
 pub overflowed_in_any_order : OverflowedInAnyOrder
 overflowed_in_any_order w vs us p = by_shape w (shape p) p
   where
-    by_shape : (w : Option CombineWord) {vs us : List Value} → Shape vs us → Reordering vs us → is_overflowed w vs ≡ is_overflowed w us
+    by_shape : (w : Option CombineWord) {vs us : List Value} → Shape vs us → Reordering vs us
+        → is_overflowed w vs ≡ is_overflowed w us
     by_shape w empty p = refl
     by_shape w (single v) p = refl
     by_shape None (several v w x y vs us) p = refl
-    by_shape (Some word.Plus) (several v w x y vs us) p = ap (λ n. cond (in_range n) false true) (sum_same (numbers_reordered p))
+    by_shape (Some word.Plus) (several v w x y vs us) p =
+        ap (λ n. cond (in_range n) false true) (sum_same (numbers_reordered p))
     by_shape (Some word.Min) (several v w x y vs us) p = refl
     by_shape (Some word.Max) (several v w x y vs us) p = refl
     by_shape (Some word.And) (several v w x y vs us) p = refl

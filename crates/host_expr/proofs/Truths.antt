@@ -1,12 +1,14 @@
 -- `&&` and `||` of tests.
 use Rattle.std.proofs.Common.{◌≡◌, refl, ap, ◌∙◌, Bool, true, false, ◌||◌, ◌&&◌}
 
-pub or_mono : (a b a' b' : Bool) → (a ≡ true → a' ≡ true) → (b ≡ true → b' ≡ true) → (a || b) ≡ true → (a' || b') ≡ true
+pub or_mono : (a b a' b' : Bool) → (a ≡ true → a' ≡ true) → (b ≡ true → b' ≡ true) → (a || b) ≡ true
+    → (a' || b') ≡ true
 or_mono true b a' b' f g h = ap (λ x. x || b') (f refl)
 or_mono false b true b' f g h = refl
 or_mono false b false b' f g h = g h
 
-pub and_mono : (a b a' b' : Bool) → (a ≡ true → a' ≡ true) → (b ≡ true → b' ≡ true) → (a && b) ≡ true → (a' && b') ≡ true
+pub and_mono : (a b a' b' : Bool) → (a ≡ true → a' ≡ true) → (b ≡ true → b' ≡ true) → (a && b) ≡ true
+    → (a' && b') ≡ true
 and_mono true b a' b' f g h = ap (λ x. x && b') (f refl) ∙ g h
 and_mono false b a' b' f g h = cc
 

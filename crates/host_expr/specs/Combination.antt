@@ -1,22 +1,19 @@
--- Several emissions of a signal in one reaction make one value, whatever their order. (This project's own, after the combine functions of Esterel and HipHop.js.)
-use Rattle.std.specs.Prelude.{◌^◌, Bool, true, false, ◌&&◌, ◌||◌, cond, nat_lt, Option, Some, None, List, [], ◌∷◌, ℤ, pos, negsuc, ◌+ℤ◌, if◌then◌else◌}
+-- Several emissions of a signal in one reaction make one value, whatever their order. (This project's
+-- own, after the combine functions of Esterel and HipHop.js.)
+use Rattle.std.specs.Prelude.{◌^◌, Bool, true, false, ◌&&◌, ◌||◌, cond, nat_lt, Option, Some, None, List}
+use Rattle.std.specs.Prelude.{[], ◌∷◌, ℤ, pos, negsuc, ◌+ℤ◌, if◌then◌else◌}
 use Rattle.std.specs.Int.{int_min, int_max}
 use Rattle.hh_base.specs.declared.value.Kind.{Kind}
-use Rattle.hh_base.specs.declared.value.Kind.TheVariants as kind
 use Rattle.hh_base.specs.declared.value.Value.{Value}
 use Rattle.hh_base.specs.declared.value.Value.TheVariants as value
+use Rattle.hh_base.specs.Value.{default_of, is_valued}
+use Rattle.hh_base.specs.Value.{default_of, is_valued}
 use Rattle.hh_base.specs.declared.value.CombineWord.{CombineWord}
 use Rattle.hh_base.specs.declared.value.CombineWord.TheVariants as word
 use Rattle.host_expr.specs.declared.cell.Cell.{Cell}
 use Rattle.host_expr.specs.declared.cell.Cell.TheVariants as cell
 
--- what a fault counts as
-abbrev pub default_of : Kind → Value
-default_of kind.Pure = value.Unit
-default_of kind.Int = value.Int (pos 0)
-default_of kind.Bool = value.Bool false
-default_of kind.Text = value.Text []
-
+-- a fault counts as the kind's default
 abbrev pub counts_as : Kind → Cell → Value
 counts_as k (cell.Known v) = v
 counts_as k _ = default_of k
@@ -74,10 +71,6 @@ combined k w [] = default_of k
 combined k w (v ∷ []) = v
 combined k None (v ∷ u ∷ vs) = default_of k
 combined k (Some w) (v ∷ u ∷ vs) = combined_by w (v ∷ u ∷ vs)
-
-abbrev pub is_valued : Kind → Bool
-is_valued kind.Pure = false
-is_valued _ = true
 
 -- two or more values of a valued signal without a word
 abbrev pub is_several : Kind → Option CombineWord → List Value → Bool

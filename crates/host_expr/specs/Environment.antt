@@ -42,6 +42,7 @@ blank s = unsolved false value.Unit
 abbrev pub env_of : List SigCell → Env
 env_of cells s = slice_index_or cells s (unsolved false value.Unit)
 
--- the environment that the cells of the code are: of a signal past their end nothing is known, and it was absent with no value before
+-- the environment that the cells of the code are: of a signal past their end nothing is known, and it was
+-- absent with no value before
 abbrev pub environment_of : Cells → Env
 environment_of cells = env_of cells.signals.items

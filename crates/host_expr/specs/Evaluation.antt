@@ -1,5 +1,9 @@
 -- What an expression gives in an environment. (This project's own.)
-use Rattle.std.specs.Prelude.{ℕ, zero, Bool, true, false, not, cond, ◌&&◌, ◌==◌, nat_le, Option, Some, None, List, [], ◌∷◌, ◌++◌, length, slice_get, ℤ, pos, ◌+ℤ◌, ◌-ℤ◌, ◌*ℤ◌, int_lt, int_le, int_div, int_rem, if◌then◌else◌}
+use Rattle.std.specs.Prelude.{ℕ, zero, Bool, true, false, not, cond, ◌&&◌, ◌==◌, nat_le, Option, Some}
+use Rattle.std.specs.Prelude.{None, List, [], ◌∷◌, ◌++◌, length, slice_get, ℤ, pos, ◌+ℤ◌, ◌-ℤ◌, ◌*ℤ◌}
+use Rattle.std.specs.Prelude.{int_lt, int_le, int_div, int_rem, if◌then◌else◌}
+use Rattle.std.specs.Str.{bytes_eq}
+use Rattle.hh_base.specs.declared.text.TheConstants.{TEXT_LIMIT}
 use Rattle.hh_base.specs.declared.value.Pos.{Pos}
 use Rattle.hh_base.specs.declared.value.Value.{Value}
 use Rattle.hh_base.specs.declared.value.Value.TheVariants as value
@@ -10,7 +14,8 @@ use Rattle.host_expr.specs.declared.expr.Rel.{Rel}
 use Rattle.host_expr.specs.declared.expr.Rel.TheVariants.{Eq, Ne, Lt, Le, Gt, Ge}
 use Rattle.host_expr.specs.declared.cell.Cell.{Cell}
 use Rattle.host_expr.specs.declared.cell.Cell.TheVariants as cell
-use Rattle.host_expr.specs.Expression.{Expression, Int, Flag, Text, Now, Pre, NowVal, PreVal, Arg, Not, Neg, Arith, Compare, And, Or, Choose}
+use Rattle.host_expr.specs.Expression.{Expression, Int, Flag, Text, Now, Pre, NowVal, PreVal, Arg, Not}
+use Rattle.host_expr.specs.Expression.{Neg, Arith, Compare, And, Or, Choose}
 use Rattle.host_expr.specs.Environment.{Env, is_known, is_decided, is_present}
 use Rattle.host_expr.specs.Combination.{in_range}
 
@@ -50,28 +55,29 @@ abbrev pub is_zero : ℤ → Bool
 is_zero (pos zero) = true
 is_zero _ = false
 
--- two numbers; division truncates toward zero, the remainder has the sign of the dividend and overflows where the quotient does
+-- two numbers; division truncates toward zero, the remainder has the sign of the dividend and overflows
+-- where the quotient does
 abbrev pub calculated : Pos → Op → ℤ → ℤ → Cell
 calculated p Add x y = number_at p (x +ℤ y)
 calculated p Sub x y = number_at p (x -ℤ y)
 calculated p Mul x y = number_at p (x *ℤ y)
 calculated p Div x y = if is_zero y then cell.Faulted p Divide else number_at p (int_div x y)
-calculated p Rem x y = if is_zero y then cell.Faulted p Divide else (if in_range (int_div x y) then cell.Known (value.Int (int_rem x y)) else cell.Faulted p Overflow)
+calculated p Rem x y =
+    if is_zero y then cell.Faulted p Divide
+    else (if in_range (int_div x y) then cell.Known (value.Int (int_rem x y))
+    else cell.Faulted p Overflow)
 
 -- two texts; `+` joins them, and no other operator takes any
 abbrev pub joined : Pos → Op → List ℕ → List ℕ → Cell
-joined p Add s t = if nat_le (length (s ++ t)) 4096 then cell.Known (value.Text (s ++ t)) else cell.Faulted p TextLong
+joined p Add s t =
+    if nat_le (length (s ++ t)) TEXT_LIMIT then cell.Known (value.Text (s ++ t))
+    else cell.Faulted p TextLong
 joined p _ s t = cell.Unknown
 
 abbrev pub arith : Pos → Op → Value → Value → Cell
 arith p op (value.Int x) (value.Int y) = calculated p op x y
 arith p op (value.Text s) (value.Text t) = joined p op s t
 arith p op _ _ = cell.Unknown
-
-abbrev pub same_bytes : List ℕ → List ℕ → Bool
-same_bytes [] [] = true
-same_bytes (x ∷ xs) (y ∷ ys) = (x == y) && same_bytes xs ys
-same_bytes _ _ = false
 
 abbrev pub same_truth : Bool → Bool → Bool
 same_truth true b = b
@@ -81,7 +87,7 @@ abbrev pub same_value : Value → Value → Bool
 same_value value.Unit value.Unit = true
 same_value (value.Int x) (value.Int y) = int_le x y && int_le y x
 same_value (value.Bool x) (value.Bool y) = same_truth x y
-same_value (value.Text x) (value.Text y) = same_bytes x y
+same_value (value.Text x) (value.Text y) = bytes_eq x y
 same_value _ _ = false
 
 -- whole numbers in order; other values only as equal or not
@@ -118,9 +124,13 @@ run (Arg n) E args = argument (slice_get args n)
 run (Not a) E args = then_with (run a E args) (λ v. cell.Known (value.Bool (not (truth v))))
 run (Neg p a) E args = then_with (run a E args) (negated p)
 run (Arith p op a b) E args = then_with (run a E args) (λ v. then_with (run b E args) (arith p op v))
-run (Compare rel a b) E args = then_with (run a E args) (λ v. then_with (run b E args) (λ w. cell.Known (value.Bool (compared rel v w))))
-run (And a b) E args = then_with (run a E args) (λ v. cond (truth v) (run b E args) (cell.Known (value.Bool false)))
-run (Or a b) E args = then_with (run a E args) (λ v. cond (truth v) (cell.Known (value.Bool true)) (run b E args))
+run (Compare rel a b) E args =
+    then_with (run a E args)
+    (λ v. then_with (run b E args) (λ w. cell.Known (value.Bool (compared rel v w))))
+run (And a b) E args =
+    then_with (run a E args) (λ v. cond (truth v) (run b E args) (cell.Known (value.Bool false)))
+run (Or a b) E args =
+    then_with (run a E args) (λ v. cond (truth v) (cell.Known (value.Bool true)) (run b E args))
 run (Choose a b c) E args = then_with (run a E args) (λ v. cond (truth v) (run b E args) (run c E args))
 
 -- unknown exactly where something that it reads is unknown; else the value or the first fault

@@ -1,4 +1,5 @@
--- Expressions without where they lie in memory: the tree that the definitions of evaluation go over. (This project's own.)
+-- Expressions without where they lie in memory: the tree that the definitions of evaluation go over.
+-- (This project's own.)
 use Rattle.std.specs.Prelude.{ℕ, Bool, Option, Some, None, List, ℤ}
 use Rattle.hh_base.specs.declared.value.Pos.{Pos}
 use Rattle.host_expr.specs.declared.expr.Op.{Op}

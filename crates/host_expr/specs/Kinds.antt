@@ -6,7 +6,8 @@ use Rattle.host_expr.specs.declared.expr.Op.{Op}
 use Rattle.host_expr.specs.declared.expr.Op.TheVariants.{Add}
 use Rattle.host_expr.specs.declared.expr.Rel.{Rel}
 use Rattle.host_expr.specs.declared.expr.Rel.TheVariants.{Eq, Ne}
-use Rattle.host_expr.specs.Expression.{Expression, Int, Flag, Text, Now, Pre, NowVal, PreVal, Arg, Not, Neg, Arith, Compare, And, Or, Choose}
+use Rattle.host_expr.specs.Expression.{Expression, Int, Flag, Text, Now, Pre, NowVal, PreVal, Arg, Not}
+use Rattle.host_expr.specs.Expression.{Neg, Arith, Compare, And, Or, Choose}
 
 -- a signal's status is a bool
 abbrev pub status_kind : Option Kind → Option Kind
@@ -68,9 +69,14 @@ kind_of_expression signals args (PreVal s) = value_kind (slice_get signals s)
 kind_of_expression signals args (Arg n) = value_kind (slice_get args n)
 kind_of_expression signals args (Not a) = only_bool (kind_of_expression signals args a)
 kind_of_expression signals args (Neg p a) = only_int (kind_of_expression signals args a)
-kind_of_expression signals args (Arith p op a b) = arith_kind op (kind_of_expression signals args a) (kind_of_expression signals args b)
-kind_of_expression signals args (Compare rel a b) = compare_kind rel (kind_of_expression signals args a) (kind_of_expression signals args b)
-kind_of_expression signals args (And a b) = both_bool (kind_of_expression signals args a) (kind_of_expression signals args b)
-kind_of_expression signals args (Or a b) = both_bool (kind_of_expression signals args a) (kind_of_expression signals args b)
+kind_of_expression signals args (Arith p op a b) =
+    arith_kind op (kind_of_expression signals args a) (kind_of_expression signals args b)
+kind_of_expression signals args (Compare rel a b) =
+    compare_kind rel (kind_of_expression signals args a) (kind_of_expression signals args b)
+kind_of_expression signals args (And a b) =
+    both_bool (kind_of_expression signals args a) (kind_of_expression signals args b)
+kind_of_expression signals args (Or a b) =
+    both_bool (kind_of_expression signals args a) (kind_of_expression signals args b)
 kind_of_expression signals args (Choose a b c) =
-    choose_kind (kind_of_expression signals args a) (one_valued (kind_of_expression signals args b) (kind_of_expression signals args c))
+    choose_kind (kind_of_expression signals args a)
+    (one_valued (kind_of_expression signals args b) (kind_of_expression signals args c))

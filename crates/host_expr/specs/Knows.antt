@@ -1,4 +1,5 @@
--- What it means to know more of a signal, of an environment and of a value: the order of information. (Berry, The Constructive
+-- What it means to know more of a signal, of an environment and of a value: the order of information.
+-- (Berry, The Constructive
 -- Semantics of Pure Esterel, widened by values.)
 use Rattle.std.specs.Prelude.{◌≡◌, ℕ, List}
 use Rattle.hh_base.specs.declared.value.Tri.{Tri}
@@ -35,4 +36,6 @@ pub record EnvBelow (E F : Env) : Type 0 where
 
 -- Law: where more is known, an expression that was known keeps its value.
 abbrev pub EvaluationRises : Type 0
-EvaluationRises = (e : Expression) (E F : Env) (args : List Value) → EnvBelow E F → CellBelow (eval_of e E args) (eval_of e F args)
+EvaluationRises =
+    (e : Expression) (E F : Env) (args : List Value) → EnvBelow E F
+    → CellBelow (eval_of e E args) (eval_of e F args)

@@ -1,10 +1,12 @@
 -- How large an expression is, and which signals it reads. (This project's own.)
-use Rattle.std.specs.Prelude.{ℕ, ◌+◌, ◌/◌, List, [], ◌∷◌, ◌++◌, length}
-use Rattle.host_expr.specs.Expression.{Expression, Text, Now, Pre, NowVal, PreVal, Not, Neg, Arith, Compare, And, Or, Choose}
+use Rattle.std.specs.Prelude.{ℕ, ◌+◌, ◌-◌, ◌/◌, List, [], ◌∷◌, ◌++◌, length}
+use Rattle.host_expr.specs.declared.expr.TheConstants.{TEXT_BLOCK}
+use Rattle.host_expr.specs.Expression.{Expression, Text, Now, Pre, NowVal, PreVal, Not, Neg, Arith}
+use Rattle.host_expr.specs.Expression.{Compare, And, Or, Choose}
 
--- 64 bytes of text, begun
+-- blocks of a text's bytes, begun
 abbrev pub text_blocks : List ℕ → ℕ
-text_blocks t = (length t + 63) / 64
+text_blocks t = (length t + (TEXT_BLOCK - 1)) / TEXT_BLOCK
 
 abbrev pub leaves_and_operators : Expression → ℕ
 leaves_and_operators (Not a) = 1 + leaves_and_operators a
@@ -13,10 +15,11 @@ leaves_and_operators (Arith p op a b) = 1 + leaves_and_operators a + leaves_and_
 leaves_and_operators (Compare rel a b) = 1 + leaves_and_operators a + leaves_and_operators b
 leaves_and_operators (And a b) = 1 + leaves_and_operators a + leaves_and_operators b
 leaves_and_operators (Or a b) = 1 + leaves_and_operators a + leaves_and_operators b
-leaves_and_operators (Choose a b c) = 1 + leaves_and_operators a + leaves_and_operators b + leaves_and_operators c
+leaves_and_operators (Choose a b c) =
+    1 + leaves_and_operators a + leaves_and_operators b + leaves_and_operators c
 leaves_and_operators _ = 1
 
--- one for each leaf and operator, and one more for each 64 bytes of a literal text begun
+-- one for each leaf and operator, and one more for each block of a literal text begun
 abbrev pub size_of_expression : Expression → ℕ
 size_of_expression (Text t) = 1 + text_blocks t
 size_of_expression (Not a) = 1 + size_of_expression a

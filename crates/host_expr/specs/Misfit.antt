@@ -1,6 +1,8 @@
--- Where the kinds of an expression do not fit: the first node, in the order of the text, whose parts fit and which itself does not.
+-- Where the kinds of an expression do not fit: the first node, in the order of the text, whose parts fit
+-- and which itself does not.
 -- (This project's own.)
-use Rattle.std.specs.Prelude.{◌≡◌, ℕ, Bool, true, ◌&&◌, cond, Option, Some, None, IsSome, is_none, is_some, ◌↔◌, List, [], ◌∷◌, ◌++◌, slice_get}
+use Rattle.std.specs.Prelude.{◌≡◌, ℕ, Bool, true, ◌&&◌, cond, Option, Some, None, IsSome, is_none}
+use Rattle.std.specs.Prelude.{is_some, ◌↔◌, List, [], ◌∷◌, ◌++◌, slice_get}
 use Rattle.hh_base.specs.declared.value.Pos.{Pos}
 use Rattle.hh_base.specs.declared.value.Kind.{Kind}
 use Rattle.hh_base.specs.declared.value.Kind.TheVariants as kind
@@ -8,9 +10,11 @@ use Rattle.host_expr.specs.declared.expr.Expr.{Expr}
 use Rattle.host_expr.specs.declared.expr.ExprNode.TheOpen as node
 use Rattle.host_expr.specs.declared.expr.ExprNode.TheFolds.{fold-Expr}
 use Rattle.host_expr.specs.Expression.{expression_of}
-use Rattle.host_expr.specs.Kinds.{status_kind, value_kind, only_int, only_bool, both_bool, arith_kind, one_valued, compare_kind, choose_kind, kind_of_expression}
+use Rattle.host_expr.specs.Kinds.{status_kind, value_kind, only_int, only_bool, both_bool, arith_kind}
+use Rattle.host_expr.specs.Kinds.{one_valued, compare_kind, choose_kind, kind_of_expression}
 
--- a node's kind, where it fits, and the misfits in it: the positions of the nodes whose parts fit and which themselves do not,
+-- a node's kind, where it fits, and the misfits in it: the positions of the nodes whose parts fit and
+-- which themselves do not,
 -- from left to right
 pub record Judged : Type 0 where
   pub kind : Option Kind
@@ -26,7 +30,8 @@ all_misfits (a ∷ parts) = a.misfits ++ all_misfits parts
 
 -- a node of this kind at this position, over its parts
 abbrev pub judged : Pos → Option Kind → List Judged → Judged
-judged p k parts = record { kind = k; misfits = cond (all_fit parts && is_none k) (p ∷ []) (all_misfits parts) }
+judged p k parts =
+    record { kind = k; misfits = cond (all_fit parts && is_none k) (p ∷ []) (all_misfits parts) }
 
 abbrev pub judged_node : List Kind → List Kind → node.ExprNode-F ℕ (Pos → Judged) Judged → Pos → Judged
 judged_node signals args (node.Int n) p = judged p (Some kind.Int) []
@@ -43,7 +48,8 @@ judged_node signals args (node.Arith op a b) p = judged p (arith_kind op a.kind 
 judged_node signals args (node.Compare rel a b) p = judged p (compare_kind rel a.kind b.kind) (a ∷ b ∷ [])
 judged_node signals args (node.And a b) p = judged p (both_bool a.kind b.kind) (a ∷ b ∷ [])
 judged_node signals args (node.Or a b) p = judged p (both_bool a.kind b.kind) (a ∷ b ∷ [])
-judged_node signals args (node.Choose a b c) p = judged p (choose_kind a.kind (one_valued b.kind c.kind)) (a ∷ b ∷ c ∷ [])
+judged_node signals args (node.Choose a b c) p =
+    judged p (choose_kind a.kind (one_valued b.kind c.kind)) (a ∷ b ∷ c ∷ [])
 
 abbrev pub judged_here : node.Expr-F ℕ (Pos → Judged) Judged → Judged
 judged_here e = e.node e.pos
@@ -61,8 +67,12 @@ first_misfit signals args e = first_of (judged_expr signals args e).misfits
 
 -- Law: the kind here is the kind of the expression.
 abbrev pub JudgedByKind : Type 0
-JudgedByKind = (signals args : List Kind) (e : Expr ℕ) → (judged_expr signals args e).kind ≡ kind_of_expression signals args (expression_of e)
+JudgedByKind =
+    (signals args : List Kind) (e : Expr ℕ)
+    → (judged_expr signals args e).kind ≡ kind_of_expression signals args (expression_of e)
 
 -- Law: there is a misfit exactly where there is no kind.
 abbrev pub MisfitWithoutKind : Type 0
-MisfitWithoutKind = (signals args : List Kind) (e : Expr ℕ) → IsSome (first_misfit signals args e) ↔ (kind_of_expression signals args (expression_of e) ≡ None)
+MisfitWithoutKind =
+    (signals args : List Kind) (e : Expr ℕ)
+    → IsSome (first_misfit signals args e) ↔ (kind_of_expression signals args (expression_of e) ≡ None)

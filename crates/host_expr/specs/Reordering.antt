@@ -14,12 +14,18 @@ pub data Reordering {A : Type 0} : List A → List A → Type 0 where
 
 -- Law: the value does not depend on the order.
 abbrev pub CombinedInAnyOrder : Type 0
-CombinedInAnyOrder = (k : Kind) (w : Option CombineWord) (vs us : List Value) → Reordering vs us → combined k w vs ≡ combined k w us
+CombinedInAnyOrder =
+    (k : Kind) (w : Option CombineWord) (vs us : List Value) → Reordering vs us
+    → combined k w vs ≡ combined k w us
 
 -- Law: nor does it whether there are several values without a combine word.
 abbrev pub SeveralInAnyOrder : Type 0
-SeveralInAnyOrder = (k : Kind) (w : Option CombineWord) (vs us : List Value) → Reordering vs us → is_several k w vs ≡ is_several k w us
+SeveralInAnyOrder =
+    (k : Kind) (w : Option CombineWord) (vs us : List Value) → Reordering vs us
+    → is_several k w vs ≡ is_several k w us
 
 -- Law: nor whether the sum overflows.
 abbrev pub OverflowedInAnyOrder : Type 0
-OverflowedInAnyOrder = (w : Option CombineWord) (vs us : List Value) → Reordering vs us → is_overflowed w vs ≡ is_overflowed w us
+OverflowedInAnyOrder =
+    (w : Option CombineWord) (vs us : List Value) → Reordering vs us
+    → is_overflowed w vs ≡ is_overflowed w us

@@ -5,7 +5,8 @@ ghost use Rattle.std.specs.Option.{option_copied};
 ghost use Rattle.hh_base.specs.declared.value.Pos.{Pos as APos};
 ghost use Rattle.hh_base.specs.declared.value.Value.TheVariants as value;
 ghost use Rattle.host_expr.specs.declared.expr.Op.TheVariants.{Add};
-ghost use Rattle.host_expr.specs.Evaluation.{calculated, joined, arith, negated, is_before, same_value, compared};
+ghost use Rattle.host_expr.specs.Evaluation.{calculated, joined, arith, negated, is_before, same_value};
+ghost use Rattle.host_expr.specs.Evaluation.{compared};
 ghost use Rattle.host_expr.specs.Parts.{value_of, cell_of, added, number_or_fault};
 
 use crate::expr::{Op, Rel};

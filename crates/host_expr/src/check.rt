@@ -3,7 +3,9 @@
 ghost use Rattle.std.specs.Prelude.{◌≡◌, Option, Some, None, IfOk, IfErr, OnErr, slice_get};
 ghost use Rattle.std.specs.Option.{option_copied};
 ghost use Rattle.host_expr.specs.Expression.{expression_of};
-ghost use Rattle.host_expr.specs.Kinds.{status_kind, value_kind, only_int, only_bool, both_bool, arith_kind, one_valued, compare_kind, choose_kind, kind_of_expression};
+ghost use Rattle.host_expr.specs.Kinds.{status_kind, value_kind, only_int, only_bool, both_bool};
+ghost use Rattle.host_expr.specs.Kinds.{arith_kind, one_valued, compare_kind, choose_kind};
+ghost use Rattle.host_expr.specs.Kinds.{kind_of_expression};
 ghost use Rattle.host_expr.specs.Misfit.{judged_expr, first_misfit};
 ghost use Rattle.host_expr.specs.Verdicts.{IsVerdict};
 
@@ -162,9 +164,14 @@ fn judge(expr: &Expr<u32>, scope: &Scope) -> Result<Kind, TypeFault>
 /// The kind of the expression's value, where its kinds fit and it reads no signal or parameter that the scope
 /// does not have, else the first node in the order of the text whose parts fit and which itself does not.
 pub fn check(expr: &Expr<u32>, scope: &Scope) -> Result<Kind, TypeFault>
-    ensures kind { IfOk result (λ k. kind_of_expression scope.now.signals.items scope.now.args.items (expression_of expr.now) ≡ Some k) }
-    ensures fault { OnErr result (kind_of_expression scope.now.signals.items scope.now.args.items (expression_of expr.now) ≡ None) }
-    ensures place { IfErr result (λ e. first_misfit scope.now.signals.items scope.now.args.items expr.now ≡ Some e.pos) }
+    ensures kind { IfOk result
+        (λ k. kind_of_expression scope.now.signals.items scope.now.args.items (expression_of expr.now)
+        ≡ Some k) }
+    ensures fault { OnErr result
+        (kind_of_expression scope.now.signals.items scope.now.args.items (expression_of expr.now)
+        ≡ None) }
+    ensures place { IfErr result
+        (λ e. first_misfit scope.now.signals.items scope.now.args.items expr.now ≡ Some e.pos) }
 {
     judge(expr, scope)
 }

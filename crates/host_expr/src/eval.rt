@@ -5,7 +5,8 @@ ghost use Rattle.hh_base.specs.declared.value.Value.TheVariants as value;
 ghost use Rattle.host_expr.specs.declared.cell.Cell.TheVariants as cell;
 ghost use Rattle.host_expr.specs.Environment.{is_decided, is_known, is_present, env_of, environment_of};
 ghost use Rattle.host_expr.specs.Expression.{expression_of};
-ghost use Rattle.host_expr.specs.Evaluation.{truth, then_with, arith, negated, compared, argument, reads_known, run, eval_of};
+ghost use Rattle.host_expr.specs.Evaluation.{truth, then_with, arith, negated, compared, argument};
+ghost use Rattle.host_expr.specs.Evaluation.{reads_known, run, eval_of};
 ghost use Rattle.host_expr.specs.Parts.{value_of, cell_of};
 
 use crate::arithmetic::{arith, compare, negate};
@@ -136,7 +137,8 @@ fn arith_with<'a>(
     left: Datum<'a>,
     right: Part<'a>,
 ) -> Result<Part<'a>, NoMemory>
-    ensures { IfOk result (λ p. cell_of p ≡ then_with (cell_of right.entry) (arith pos op (value_of left.entry))) }
+    ensures { IfOk result
+        (λ p. cell_of p ≡ then_with (cell_of right.entry) (arith pos op (value_of left.entry))) }
 {
     match right {
         Part::Known(right) => arith(alloc, pos, op, left, &right),
@@ -146,7 +148,9 @@ fn arith_with<'a>(
 }
 
 fn compare_with<'a>(rel: Rel, left: &Datum<'_>, right: Part<'a>) -> Part<'a>
-    ensures { cell_of result ≡ then_with (cell_of right.entry) (λ w. cell.Known (value.Bool (compared rel (value_of left.now) w))) }
+    ensures { cell_of result
+        ≡ then_with (cell_of right.entry)
+        (λ w. cell.Known (value.Bool (compared rel (value_of left.now) w))) }
 {
     match right {
         Part::Known(right) => flag(compare(rel, left, &right)),
@@ -157,7 +161,8 @@ fn compare_with<'a>(rel: Rel, left: &Datum<'_>, right: Part<'a>) -> Part<'a>
 
 /// From left to right up to the first fault, and only what is taken.
 fn run<'a>(alloc: Global, expr: &'a Expr<u32>, cells: &'a Cells) -> Result<Part<'a>, NoMemory>
-    ensures { IfOk result (λ p. cell_of p ≡ run (expression_of expr.now) (environment_of cells.now) cells.now.args.items) }
+    ensures { IfOk result
+        (λ p. cell_of p ≡ run (expression_of expr.now) (environment_of cells.now) cells.now.args.items) }
 {
     match &expr.node {
         ExprNode::Int(number) => Ok(Part::Known(Datum::Int(*number))),
@@ -201,7 +206,8 @@ fn run<'a>(alloc: Global, expr: &'a Expr<u32>, cells: &'a Cells) -> Result<Part<
 /// operator. A signal or a parameter that the cells do not have is unknown. The time is that of one walk over
 /// the expression.
 pub fn eval(alloc: Global, expr: &Expr<u32>, cells: &Cells) -> Result<Cell, NoMemory>
-    ensures { IfOk result (λ c. c ≡ eval_of (expression_of expr.now) (environment_of cells.now) cells.now.args.items) }
+    ensures { IfOk result
+        (λ c. c ≡ eval_of (expression_of expr.now) (environment_of cells.now) cells.now.args.items) }
 {
     if !reads_known(expr, &cells.signals) {
         return Ok(Cell::Unknown);

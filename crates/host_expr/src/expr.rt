@@ -8,6 +8,12 @@ use hh_base::value::Pos;
 use sqlite_items::Boxed;
 use std::alloc::Global;
 
+/// The most leaves and operators that an expression has.
+pub const EXPRESSION_LIMIT: u32 = 1_024;
+
+/// So many bytes of a literal text, begun, count as one more node.
+pub const TEXT_BLOCK: usize = 64;
+
 /// An expression. `R` names what it reads: a name as written, or the number of a signal or parameter.
 #[cycle(expr)]
 #[derive(Drop)]
@@ -16,6 +22,9 @@ pub struct Expr<R: Drop> {
     pub node: ExprNode<R>,
 }
 
+/// Literals, what is read of a signal (its status and value, now and in the previous reaction) or of a
+/// parameter, and operators over their operands from left to right. `And`, `Or` and `Choose` evaluate only
+/// what is taken.
 #[cycle(expr)]
 #[derive(Drop)]
 pub enum ExprNode<R: Drop> {
@@ -36,6 +45,7 @@ pub enum ExprNode<R: Drop> {
     Choose(Boxed<Expr<R>>, Boxed<Expr<R>>, Boxed<Expr<R>>),
 }
 
+/// The operators of arithmetic: `+`, `-`, `*`, `/` and `%`. `/` rounds towards zero, and `+` joins texts.
 #[derive(Clone, Copy, PartialEq, Eq, Debug)]
 pub enum Op {
     Add,
@@ -45,6 +55,7 @@ pub enum Op {
     Rem,
 }
 
+/// The comparisons: `==`, `!=`, `<`, `<=`, `>` and `>=`.
 #[derive(Clone, Copy, PartialEq, Eq, Debug)]
 pub enum Rel {
     Eq,

@@ -1,7 +1,7 @@
-//! Expressions on the edges of their operators.
+//! Expressions on the edges of their operators: tables of operands, an operator and what it gives.
 
 use crate::cell::{Cell, Cells, Scope, SigCell};
-use crate::check::check;
+use crate::check::{TypeFault, check};
 use crate::eval::eval;
 use crate::expr::{Expr, ExprNode, Op, Rel, copy_expr, same_expr};
 use hh_base::memory::NoMemory;
@@ -118,201 +118,220 @@ fn seen(cell: &Cell) -> Outcome {
     }
 }
 
-/// Signal 0 is unknown, was present before and had the value 3. Signal 1 is present with this number, and
-/// had the value 6. Parameter 0 is 8.
-fn cells(alloc: Global, number: i64) -> Result<Cells, NoMemory> {
+/// Signal 0 is unknown, was present before and had the value 3. Signal 1 is present with the number 4, and
+/// had the value 6. The values of signals 2 and 3 are faults at 9 and 8. Parameter 0 is 8.
+fn cells(alloc: Global) -> Result<Cells, NoMemory> {
     let mut signals = Vec::new(alloc);
-    signals.push(SigCell {
-        status: Tri::Unknown,
-        value: Cell::Unknown,
-        pre: true,
-        preval: Value::Int(3),
-    })?;
-    signals.push(SigCell {
-        status: Tri::One,
-        value: Cell::Known(Value::Int(number)),
-        pre: false,
-        preval: Value::Int(6),
-    })?;
+    for (status, value, pre, before) in [
+        (Tri::Unknown, Cell::Unknown, true, 3),
+        (Tri::One, Cell::Known(Value::Int(4)), false, 6),
+        (Tri::One, Cell::Faulted(Pos(9), FaultKind::Divide), false, 0),
+        (
+            Tri::Zero,
+            Cell::Faulted(Pos(8), FaultKind::Overflow),
+            false,
+            0,
+        ),
+    ] {
+        let preval = Value::Int(before);
+        signals.push(SigCell {
+            status,
+            value,
+            pre,
+            preval,
+        })?;
+    }
     let mut args = Vec::new(alloc);
     args.push(Value::Int(8))?;
     Ok(Cells { signals, args })
 }
 
-fn evaluated(alloc: Global, steps: &[Step], number: i64) -> Result<Outcome, NoMemory> {
-    let expr = build(alloc, steps)?;
-    let cells = cells(alloc, number)?;
-    Ok(seen(&eval(alloc, expr.get(), &cells)?))
-}
+const NONE: Step = Step::Flag(true);
 
-// `A.nowval * 2`, `V.preval + 1` and `10 / A.nowval`, where 1 is the signal A or V.
-#[test]
-fn reads_values(rt: HostRuntime) -> Result<(), Fail> {
-    let twice = [Step::NowVal(1), Step::Int(2), Step::Arith(Op::Mul)];
-    let next = [Step::PreVal(1), Step::Int(1), Step::Arith(Op::Add)];
-    let tenth = [Step::Int(10), Step::NowVal(1), Step::Arith(Op::Div)];
-    assert_eq!(rt; evaluated(rt.alloc(), &twice, 3)?, Outcome::Int(6));
-    assert_eq!(rt; evaluated(rt.alloc(), &next, 3)?, Outcome::Int(7));
-    assert_eq!(rt;
-        evaluated(rt.alloc(), &tenth, 0)?,
-        Outcome::Fault(2, FaultKind::Divide)
-    );
-    assert_eq!(rt; evaluated(rt.alloc(), &tenth, 5)?, Outcome::Int(2));
-    Ok(())
-}
+const OVERFLOW: Outcome = Outcome::Fault(3, FaultKind::Overflow);
 
-#[test]
-fn arithmetic(rt: HostRuntime) -> Result<(), Fail> {
-    let overflow = Outcome::Fault(2, FaultKind::Overflow);
-    let divide = Outcome::Fault(2, FaultKind::Divide);
-    for (op, left, right, want) in [
-        (Op::Add, i64::MAX, 0, Outcome::Int(i64::MAX)),
-        (Op::Add, i64::MAX, 1, overflow),
-        (Op::Add, i64::MIN, -1, overflow),
-        (Op::Sub, i64::MIN, 1, overflow),
-        (Op::Sub, -1, i64::MIN, Outcome::Int(i64::MAX)),
-        (Op::Sub, 0, i64::MIN, overflow),
-        (
-            Op::Mul,
-            4_294_967_296,
-            -2_147_483_648,
-            Outcome::Int(i64::MIN),
-        ),
-        (Op::Mul, 4_294_967_296, 2_147_483_648, overflow),
-        (Op::Mul, i64::MIN, -1, overflow),
-        (Op::Div, 7, 2, Outcome::Int(3)),
-        (Op::Div, -7, 2, Outcome::Int(-3)),
-        (Op::Div, 7, -2, Outcome::Int(-3)),
-        (Op::Div, -7, -2, Outcome::Int(3)),
-        (Op::Div, i64::MIN, -1, overflow),
-        (Op::Div, i64::MIN, 1, Outcome::Int(i64::MIN)),
-        (Op::Div, 0, 0, divide),
-        (Op::Rem, 7, 2, Outcome::Int(1)),
-        (Op::Rem, -7, 2, Outcome::Int(-1)),
-        (Op::Rem, 7, -2, Outcome::Int(1)),
-        (Op::Rem, -7, -2, Outcome::Int(-1)),
-        (Op::Rem, i64::MIN, -1, overflow),
-        (Op::Rem, i64::MIN, 0, divide),
-    ] {
-        let steps = [Step::Int(left), Step::Int(right), Step::Arith(op)];
-        assert_eq!(rt; evaluated(rt.alloc(), &steps, 0)?, want);
-    }
-    let negated = [Step::Int(i64::MIN), Step::Neg];
-    assert_eq!(rt;
-        evaluated(rt.alloc(), &negated, 0)?,
-        Outcome::Fault(1, FaultKind::Overflow)
-    );
-    Ok(())
-}
+const DIVIDE: Outcome = Outcome::Fault(3, FaultKind::Divide);
 
-// The second and third rows join to a text that was itself joined.
-#[test]
-fn joins(rt: HostRuntime) -> Result<(), Fail> {
-    let join = Step::Arith(Op::Add);
-    for (first, second, third, want) in [
-        (4000, 96, 0, Outcome::Letters(4096)),
-        (2000, 2000, 96, Outcome::Letters(4096)),
-        (2000, 2000, 97, Outcome::Fault(4, FaultKind::TextLong)),
-        (4096, 1, 0, Outcome::Fault(2, FaultKind::TextLong)),
-    ] {
-        let texts = [
-            Step::Letters(first),
-            Step::Letters(second),
-            join,
-            Step::Letters(third),
-            join,
-        ];
-        assert_eq!(rt; evaluated(rt.alloc(), &texts, 0)?, want);
-    }
-    Ok(())
-}
+const NUMBERS: [(Op, i64, i64, Outcome); 20] = [
+    (Op::Add, i64::MAX, 0, Outcome::Int(i64::MAX)),
+    (Op::Add, i64::MAX, 1, OVERFLOW),
+    (Op::Add, i64::MIN, -1, OVERFLOW),
+    (Op::Sub, -1, i64::MIN, Outcome::Int(i64::MAX)),
+    (Op::Sub, 0, i64::MIN, OVERFLOW),
+    (
+        Op::Mul,
+        4_294_967_296,
+        -2_147_483_648,
+        Outcome::Int(i64::MIN),
+    ),
+    (Op::Mul, 4_294_967_296, 2_147_483_648, OVERFLOW),
+    (Op::Mul, i64::MIN, -1, OVERFLOW),
+    (Op::Div, 7, 2, Outcome::Int(3)),
+    (Op::Div, -7, 2, Outcome::Int(-3)),
+    (Op::Div, 7, -2, Outcome::Int(-3)),
+    (Op::Div, -7, -2, Outcome::Int(3)),
+    (Op::Div, i64::MIN, -1, OVERFLOW),
+    (Op::Div, 0, 0, DIVIDE),
+    (Op::Rem, 7, 2, Outcome::Int(1)),
+    (Op::Rem, -7, 2, Outcome::Int(-1)),
+    (Op::Rem, 7, -2, Outcome::Int(1)),
+    (Op::Rem, -7, -2, Outcome::Int(-1)),
+    (Op::Rem, i64::MIN, -1, OVERFLOW),
+    (Op::Rem, i64::MIN, 0, DIVIDE),
+];
 
-#[test]
-fn comparisons(rt: HostRuntime) -> Result<(), Fail> {
-    for (rel, left, right, want) in [
-        (Rel::Eq, Step::Int(-1), Step::Int(-1), true),
-        (Rel::Eq, Step::Int(1), Step::Int(-1), false),
-        (Rel::Ne, Step::Flag(true), Step::Flag(false), true),
-        (Rel::Eq, Step::Flag(false), Step::Flag(false), true),
-        (Rel::Eq, Step::Letters(2), Step::Letters(3), false),
-        (Rel::Ne, Step::Letters(3), Step::Letters(3), false),
-        (Rel::Lt, Step::Int(i64::MIN), Step::Int(i64::MAX), true),
-        (Rel::Lt, Step::Int(2), Step::Int(2), false),
-        (Rel::Le, Step::Int(2), Step::Int(2), true),
-        (Rel::Le, Step::Int(3), Step::Int(2), false),
-        (Rel::Gt, Step::Int(2), Step::Int(2), false),
-        (Rel::Gt, Step::Int(0), Step::Int(-5), true),
-        (Rel::Ge, Step::Int(2), Step::Int(2), true),
-        (Rel::Ge, Step::Int(-3), Step::Int(2), false),
-    ] {
-        let steps = [left, right, Step::Compare(rel)];
-        assert_eq!(rt; evaluated(rt.alloc(), &steps, 0)?, Outcome::Flag(want));
-    }
-    Ok(())
-}
-
-// The right side is a comparison that faults with 1 / 0 at 3, or the status of the unknown signal 0.
-#[test]
-fn skips_and_waits(rt: HostRuntime) -> Result<(), Fail> {
-    let divide = Outcome::Fault(3, FaultKind::Divide);
-    for (left, join, want) in [
-        (false, Step::And, Outcome::Flag(false)),
-        (true, Step::And, divide),
-        (true, Step::Or, Outcome::Flag(true)),
-        (false, Step::Or, divide),
-    ] {
-        let faults = [
-            Step::Flag(left),
-            Step::Int(1),
-            Step::Int(0),
-            Step::Arith(Op::Div),
-            Step::Int(1),
+// The operator stands at 3. A fault within an operand is at 9 or 8.
+const EVALUATED: [([Step; 4], Outcome); 28] = [
+    ([NONE, NONE, Step::Int(i64::MIN), Step::Neg], OVERFLOW),
+    ([NONE, NONE, Step::PreVal(1), Step::Neg], Outcome::Int(-6)),
+    (
+        [NONE, Step::NowVal(1), Step::PreVal(1), Step::Arith(Op::Add)],
+        Outcome::Int(10),
+    ),
+    (
+        [NONE, Step::Int(1), Step::NowVal(0), Step::Arith(Op::Add)],
+        Outcome::Unknown,
+    ),
+    (
+        [NONE, Step::NowVal(2), Step::NowVal(3), Step::Arith(Op::Add)],
+        Outcome::Fault(9, FaultKind::Divide),
+    ),
+    (
+        [NONE, Step::NowVal(3), Step::NowVal(2), Step::Arith(Op::Add)],
+        Outcome::Fault(8, FaultKind::Overflow),
+    ),
+    (
+        [
+            NONE,
+            Step::Letters(4000),
+            Step::Letters(96),
+            Step::Arith(Op::Add),
+        ],
+        Outcome::Letters(4096),
+    ),
+    (
+        [
+            NONE,
+            Step::Letters(4096),
+            Step::Letters(1),
+            Step::Arith(Op::Add),
+        ],
+        Outcome::Fault(3, FaultKind::TextLong),
+    ),
+    (
+        [NONE, Step::Int(-1), Step::Int(-1), Step::Compare(Rel::Eq)],
+        Outcome::Flag(true),
+    ),
+    (
+        [NONE, Step::Int(1), Step::Int(-1), Step::Compare(Rel::Eq)],
+        Outcome::Flag(false),
+    ),
+    (
+        [
+            NONE,
+            Step::Letters(2),
+            Step::Letters(3),
             Step::Compare(Rel::Eq),
-            join,
-        ];
-        assert_eq!(rt; evaluated(rt.alloc(), &faults, 0)?, want);
-        let waits = [Step::Flag(left), Step::Now(0), join];
-        assert_eq!(rt; evaluated(rt.alloc(), &waits, 0)?, Outcome::Unknown);
-    }
-    Ok(())
-}
+        ],
+        Outcome::Flag(false),
+    ),
+    (
+        [
+            NONE,
+            Step::Flag(true),
+            Step::Flag(false),
+            Step::Compare(Rel::Ne),
+        ],
+        Outcome::Flag(true),
+    ),
+    (
+        [
+            NONE,
+            Step::Letters(3),
+            Step::Letters(3),
+            Step::Compare(Rel::Ne),
+        ],
+        Outcome::Flag(false),
+    ),
+    (
+        [
+            NONE,
+            Step::Int(i64::MIN),
+            Step::Int(i64::MAX),
+            Step::Compare(Rel::Lt),
+        ],
+        Outcome::Flag(true),
+    ),
+    (
+        [NONE, Step::Int(2), Step::Int(2), Step::Compare(Rel::Lt)],
+        Outcome::Flag(false),
+    ),
+    (
+        [NONE, Step::Int(2), Step::Int(2), Step::Compare(Rel::Le)],
+        Outcome::Flag(true),
+    ),
+    (
+        [NONE, Step::Int(0), Step::Int(-5), Step::Compare(Rel::Gt)],
+        Outcome::Flag(true),
+    ),
+    (
+        [NONE, Step::Int(-3), Step::Int(2), Step::Compare(Rel::Ge)],
+        Outcome::Flag(false),
+    ),
+    (
+        [NONE, Step::Flag(false), Step::NowVal(2), Step::And],
+        Outcome::Flag(false),
+    ),
+    (
+        [NONE, Step::Flag(true), Step::NowVal(2), Step::And],
+        Outcome::Fault(9, FaultKind::Divide),
+    ),
+    (
+        [NONE, Step::Flag(true), Step::NowVal(2), Step::Or],
+        Outcome::Flag(true),
+    ),
+    (
+        [NONE, Step::Flag(false), Step::NowVal(2), Step::Or],
+        Outcome::Fault(9, FaultKind::Divide),
+    ),
+    (
+        [NONE, Step::Flag(false), Step::Now(0), Step::And],
+        Outcome::Unknown,
+    ),
+    (
+        [Step::Now(1), Step::Int(2), Step::Int(3), Step::Choose],
+        Outcome::Int(2),
+    ),
+    (
+        [Step::Pre(1), Step::Int(2), Step::Int(3), Step::Choose],
+        Outcome::Int(3),
+    ),
+    (
+        [Step::Pre(0), Step::PreVal(0), Step::Int(4), Step::Choose],
+        Outcome::Int(3),
+    ),
+    (
+        [Step::Now(1), Step::Int(2), Step::NowVal(0), Step::Choose],
+        Outcome::Unknown,
+    ),
+    (
+        [Step::Now(1), Step::Arg(0), Step::NowVal(2), Step::Choose],
+        Outcome::Int(8),
+    ),
+];
 
 #[test]
-fn chooses(rt: HostRuntime) -> Result<(), Fail> {
-    for (test, second, third, want) in [
-        (Step::Now(1), Step::Int(2), Step::Int(3), Outcome::Int(2)),
-        (Step::Pre(1), Step::Int(2), Step::Int(3), Outcome::Int(3)),
-        (Step::Pre(0), Step::PreVal(0), Step::Int(4), Outcome::Int(3)),
-        (
-            Step::Now(1),
-            Step::Int(2),
-            Step::NowVal(0),
-            Outcome::Unknown,
-        ),
-        (Step::Now(1), Step::Arg(0), Step::Int(2), Outcome::Int(8)),
-    ] {
-        let steps = [test, second, third, Step::Choose];
-        assert_eq!(rt; evaluated(rt.alloc(), &steps, 4)?, want);
+fn evaluates(rt: HostRuntime) -> Result<(), Fail> {
+    let cells = cells(rt.alloc())?;
+    for (op, left, right, want) in NUMBERS {
+        let steps = [NONE, Step::Int(left), Step::Int(right), Step::Arith(op)];
+        let expr = build(rt.alloc(), &steps)?;
+        assert_eq!(rt; seen(&eval(rt.alloc(), expr.get(), &cells)?), want);
     }
-    Ok(())
-}
-
-// The left operand overflows at 2, and the right one divides by zero at 5; their sum would stand at 6.
-#[test]
-fn first_fault(rt: HostRuntime) -> Result<(), Fail> {
-    let steps = [
-        Step::Int(i64::MAX),
-        Step::Int(1),
-        Step::Arith(Op::Add),
-        Step::Int(1),
-        Step::Int(0),
-        Step::Arith(Op::Div),
-        Step::Arith(Op::Add),
-    ];
-    assert_eq!(rt;
-        evaluated(rt.alloc(), &steps, 0)?,
-        Outcome::Fault(2, FaultKind::Overflow)
-    );
+    for (steps, want) in EVALUATED {
+        let expr = build(rt.alloc(), &steps)?;
+        assert_eq!(rt; seen(&eval(rt.alloc(), expr.get(), &cells)?), want);
+    }
     Ok(())
 }
 
@@ -326,121 +345,75 @@ fn scope(alloc: Global) -> Result<Scope, NoMemory> {
     Ok(Scope { signals, args })
 }
 
-/// The kind, or the position of the first misfit.
-fn checked(alloc: Global, steps: &[Step]) -> Result<Result<Kind, u32>, NoMemory> {
-    let expr = build(alloc, steps)?;
-    let scope = scope(alloc)?;
-    Ok(match check(expr.get(), &scope) {
-        Ok(kind) => Ok(kind),
-        Err(fault) => Err(fault.pos.0),
-    })
-}
+const INT: Step = Step::Int(1);
+
+const TEXT: Step = Step::Letters(1);
+
+// The kind, or the place of the first misfit.
+const CHECKED: [([Step; 4], Result<Kind, u32>); 32] = [
+    ([NONE, NONE, NONE, INT], Ok(Kind::Int)),
+    ([NONE, NONE, NONE, NONE], Ok(Kind::Bool)),
+    ([NONE, NONE, NONE, TEXT], Ok(Kind::Text)),
+    ([NONE, NONE, NONE, Step::Now(0)], Ok(Kind::Bool)),
+    ([NONE, NONE, NONE, Step::Pre(2)], Err(3)),
+    ([NONE, NONE, NONE, Step::NowVal(1)], Ok(Kind::Int)),
+    ([NONE, NONE, NONE, Step::NowVal(0)], Err(3)),
+    ([NONE, NONE, NONE, Step::PreVal(2)], Err(3)),
+    ([NONE, NONE, NONE, Step::Arg(0)], Ok(Kind::Text)),
+    ([NONE, INT, INT, Step::Arith(Op::Rem)], Ok(Kind::Int)),
+    ([NONE, TEXT, TEXT, Step::Arith(Op::Add)], Ok(Kind::Text)),
+    ([NONE, TEXT, TEXT, Step::Arith(Op::Sub)], Err(3)),
+    ([NONE, TEXT, INT, Step::Arith(Op::Add)], Err(3)),
+    ([NONE, NONE, NONE, Step::Arith(Op::Add)], Err(3)),
+    ([NONE, TEXT, TEXT, Step::Compare(Rel::Eq)], Ok(Kind::Bool)),
+    ([NONE, NONE, NONE, Step::Compare(Rel::Ne)], Ok(Kind::Bool)),
+    ([NONE, INT, NONE, Step::Compare(Rel::Eq)], Err(3)),
+    ([NONE, INT, INT, Step::Compare(Rel::Lt)], Ok(Kind::Bool)),
+    ([NONE, TEXT, TEXT, Step::Compare(Rel::Le)], Err(3)),
+    ([NONE, NONE, NONE, Step::And], Ok(Kind::Bool)),
+    ([NONE, NONE, INT, Step::And], Err(3)),
+    ([NONE, TEXT, NONE, Step::Or], Err(3)),
+    ([NONE, INT, INT, Step::Not], Err(3)),
+    ([NONE, INT, NONE, Step::Not], Ok(Kind::Bool)),
+    ([NONE, INT, NONE, Step::Neg], Err(3)),
+    ([NONE, NONE, INT, Step::Neg], Ok(Kind::Int)),
+    ([NONE, TEXT, TEXT, Step::Choose], Ok(Kind::Text)),
+    ([NONE, TEXT, INT, Step::Choose], Err(3)),
+    ([INT, TEXT, TEXT, Step::Choose], Err(3)),
+    ([Step::NowVal(0), Step::Arg(7), INT, Step::Choose], Err(0)),
+    ([NONE, Step::Arg(7), Step::Arg(8), Step::Choose], Err(1)),
+    ([INT, TEXT, Step::Arg(8), Step::Choose], Err(2)),
+];
 
 #[test]
-fn kinds_of_leaves(rt: HostRuntime) -> Result<(), Fail> {
-    for (leaf, want) in [
-        (Step::Int(1), Ok(Kind::Int)),
-        (Step::Flag(true), Ok(Kind::Bool)),
-        (Step::Letters(1), Ok(Kind::Text)),
-        (Step::Now(0), Ok(Kind::Bool)),
-        (Step::Pre(2), Err(0)),
-        (Step::NowVal(1), Ok(Kind::Int)),
-        (Step::NowVal(0), Err(0)),
-        (Step::PreVal(2), Err(0)),
-        (Step::Arg(0), Ok(Kind::Text)),
-        (Step::Arg(1), Err(0)),
-    ] {
-        assert_eq!(rt; checked(rt.alloc(), &[leaf])?, want);
+fn checks(rt: HostRuntime) -> Result<(), Fail> {
+    let scope = scope(rt.alloc())?;
+    for (steps, want) in CHECKED {
+        let expr = build(rt.alloc(), &steps)?;
+        let found = match check(expr.get(), &scope) {
+            Ok(kind) => Ok(kind),
+            Err(fault) => Err(fault.pos.0),
+        };
+        assert_eq!(rt; found, want);
     }
+    let shown = format!(in rt.alloc(); "{}", TypeFault { pos: Pos(7) })?;
+    assert_eq!(rt; shown.as_str(), "the kinds do not fit at byte 7");
     Ok(())
 }
 
-#[test]
-fn kinds_of_operators(rt: HostRuntime) -> Result<(), Fail> {
-    let int = Step::Int(1);
-    let flag = Step::Flag(true);
-    let text = Step::Letters(1);
-    for (left, right, operator, want) in [
-        (int, int, Step::Arith(Op::Rem), Ok(Kind::Int)),
-        (text, text, Step::Arith(Op::Add), Ok(Kind::Text)),
-        (text, text, Step::Arith(Op::Sub), Err(2)),
-        (text, int, Step::Arith(Op::Add), Err(2)),
-        (int, text, Step::Arith(Op::Add), Err(2)),
-        (flag, flag, Step::Arith(Op::Add), Err(2)),
-        (text, text, Step::Compare(Rel::Eq), Ok(Kind::Bool)),
-        (flag, flag, Step::Compare(Rel::Ne), Ok(Kind::Bool)),
-        (int, flag, Step::Compare(Rel::Eq), Err(2)),
-        (int, int, Step::Compare(Rel::Lt), Ok(Kind::Bool)),
-        (text, text, Step::Compare(Rel::Le), Err(2)),
-        (flag, flag, Step::Compare(Rel::Gt), Err(2)),
-        (flag, flag, Step::And, Ok(Kind::Bool)),
-        (flag, int, Step::And, Err(2)),
-        (text, flag, Step::Or, Err(2)),
-        (int, int, Step::Not, Err(2)),
-        (int, flag, Step::Not, Ok(Kind::Bool)),
-        (int, flag, Step::Neg, Err(2)),
-        (flag, int, Step::Neg, Ok(Kind::Int)),
-    ] {
-        assert_eq!(rt; checked(rt.alloc(), &[left, right, operator])?, want);
-    }
-    Ok(())
-}
-
-// The first misfit from the left is told, and not the operator over it.
-#[test]
-fn first_misfit(rt: HostRuntime) -> Result<(), Fail> {
-    let int = Step::Int(1);
-    let flag = Step::Flag(true);
-    let text = Step::Letters(1);
-    for (first, second, third, want) in [
-        (flag, text, text, Ok(Kind::Text)),
-        (flag, text, int, Err(3)),
-        (int, text, text, Err(3)),
-        (Step::NowVal(0), Step::Arg(7), int, Err(0)),
-        (flag, Step::Arg(7), Step::Arg(8), Err(1)),
-        (int, text, Step::Arg(8), Err(2)),
-    ] {
-        assert_eq!(rt;
-            checked(rt.alloc(), &[first, second, third, Step::Choose])?,
-            want
-        );
-    }
-    let fault = check(
-        build(rt.alloc(), &[Step::Arg(7)])?.get(),
-        &scope(rt.alloc())?,
-    );
-    let Err(fault) = fault else {
-        panic!(rt; "parameter 7 is not there");
-    };
-    let shown = format!(in rt.alloc(); "{fault}")?;
-    assert_eq!(rt; shown.as_str(), "the kinds do not fit at byte 0");
-    Ok(())
-}
-
-/// `-(1 + 1 + ..)` or `-(1 + (1 + ..))`: of 1,024 leaves and operators, deep on one side.
-fn deep(alloc: Global, is_left: bool) -> Result<Expr<u32>, NoMemory> {
+/// `-(1 + 1 + ..)` with 1,024 leaves and operators.
+fn deep(alloc: Global) -> Result<Expr<u32>, NoMemory> {
     let one = Expr {
         pos: Pos(0),
         node: ExprNode::Int(1),
     };
-    let mut sum = one;
+    let mut sum = copy_expr(alloc, &one)?;
     for place in 1..512 {
-        let one = Boxed::new(
-            alloc,
-            Expr {
-                pos: Pos(0),
-                node: ExprNode::Int(1),
-            },
-        )?;
-        let part = Boxed::new(alloc, sum)?;
-        let node = if is_left {
-            ExprNode::Arith(Op::Add, part, one)
-        } else {
-            ExprNode::Arith(Op::Add, one, part)
-        };
+        let left = Boxed::new(alloc, sum)?;
+        let right = Boxed::new(alloc, copy_expr(alloc, &one)?)?;
         sum = Expr {
             pos: Pos(place),
-            node,
+            node: ExprNode::Arith(Op::Add, left, right),
         };
     }
     Ok(Expr {
@@ -451,14 +424,15 @@ fn deep(alloc: Global, is_left: bool) -> Result<Expr<u32>, NoMemory> {
 
 #[test]
 fn deep_expressions(rt: HostRuntime) -> Result<(), Fail> {
-    let cells = cells(rt.alloc(), 0)?;
-    for is_left in [true, false] {
-        let expr = deep(rt.alloc(), is_left)?;
-        assert_eq!(rt; seen(&eval(rt.alloc(), &expr, &cells)?), Outcome::Int(-512));
-        assert!(rt; matches!(check(&expr, &scope(rt.alloc())?), Ok(Kind::Int)));
-        let copy = copy_expr(rt.alloc(), &expr)?;
-        assert!(rt; same_expr(&expr, &copy));
-        assert!(rt; !same_expr(&expr, &deep(rt.alloc(), !is_left)?));
-    }
+    let expr = deep(rt.alloc())?;
+    let cells = cells(rt.alloc())?;
+    assert_eq!(rt; seen(&eval(rt.alloc(), &expr, &cells)?), Outcome::Int(-512));
+    assert!(rt; matches!(check(&expr, &scope(rt.alloc())?), Ok(Kind::Int)));
+    let copy = copy_expr(rt.alloc(), &expr)?;
+    assert!(rt; same_expr(&expr, &copy));
+    let ExprNode::Neg(sum) = &expr.node else {
+        panic!(rt; "the outermost operator is a minus");
+    };
+    assert!(rt; !same_expr(sum.get(), &copy));
     Ok(())
 }

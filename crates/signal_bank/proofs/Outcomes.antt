@@ -35,14 +35,18 @@ kind_reordered (v ∷ vs) (u ∷ us) all p = sym (of_kind_reordered (kind_of_bag
 pub outcome_in_any_order : OutcomeInAnyOrder
 outcome_in_any_order w vs us all p =
     let k = kind_of_bag us in
-    ap (λ k. outcome_by (is_several k w vs) (is_overflowed w vs) (combined k w vs)) (kind_reordered vs us all p)
+    ap (λ k. outcome_by (is_several k w vs) (is_overflowed w vs) (combined k w vs))
+        (kind_reordered vs us all p)
     ∙ ap (λ s. outcome_by s (is_overflowed w vs) (combined k w vs)) (several_in_any_order k w vs us p)
     ∙ ap (λ o. outcome_by (is_several k w us) o (combined k w vs)) (overflowed_in_any_order w vs us p)
     ∙ ap (λ v. outcome_by (is_several k w us) (is_overflowed w us) v) (combined_in_any_order k w vs us p)
 
 -- ---- when the outcome is one value
 
-pub single_exactly : (s o : Bool) (u : Value) (c : Combined) → c ≡ outcome_by s o u → (v : Value) → (c ≡ Single v) ↔ ((s ≡ false) × (o ≡ false) × (v ≡ u))
+pub single_exactly : (s o : Bool) (u : Value) (c : Combined) → c ≡ outcome_by s o u → (v : Value)
+    → (c ≡ Single v) ↔ ((s ≡ false) × (o ≡ false) × (v ≡ u))
 single_exactly true o u c is v = (λ e. cc, λ (e : (true ≡ false) × (o ≡ false) × (v ≡ u)). let f = e.0 in cc)
-single_exactly false true u c is v = (λ e. cc, λ (e : (false ≡ false) × (true ≡ false) × (v ≡ u)). let f = e.1 in cc)
-single_exactly false false u c is v = (λ e. (refl, refl, cc), λ (e : (false ≡ false) × (false ≡ false) × (v ≡ u)). let f = e.2 in cc)
+single_exactly false true u c is v =
+    (λ e. cc, λ (e : (false ≡ false) × (true ≡ false) × (v ≡ u)). let f = e.1 in cc)
+single_exactly false false u c is v =
+    (λ e. (refl, refl, cc), λ (e : (false ≡ false) × (false ≡ false) × (v ≡ u)). let f = e.2 in cc)

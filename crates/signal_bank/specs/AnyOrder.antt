@@ -8,4 +8,6 @@ use Rattle.signal_bank.specs.Outcome.{outcome}
 
 -- Law: bags of one kind with the same values combine to the same.
 abbrev pub OutcomeInAnyOrder : Type 0
-OutcomeInAnyOrder = (w : Option CombineWord) (vs us : List Value) → AreOfOneKind vs → Reordering vs us → outcome w vs ≡ outcome w us
+OutcomeInAnyOrder =
+    (w : Option CombineWord) (vs us : List Value) → AreOfOneKind vs → Reordering vs us
+    → outcome w vs ≡ outcome w us

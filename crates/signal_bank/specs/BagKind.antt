@@ -19,4 +19,5 @@ AreOfOneKind vs = AreOfKind (kind_of_bag vs) vs
 
 -- Law: a bag that is not empty, whose values are of one kind, is of that kind.
 abbrev pub BagIsOfItsKind : Type 0
-BagIsOfItsKind = (k : Kind) (vs : List Value) → vs ≢ [] → AreOfKind k vs → (kind_of_bag vs ≡ k) × AreOfOneKind vs
+BagIsOfItsKind =
+    (k : Kind) (vs : List Value) → vs ≢ [] → AreOfKind k vs → (kind_of_bag vs ≡ k) × AreOfOneKind vs

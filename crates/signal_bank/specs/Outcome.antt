@@ -1,4 +1,5 @@
--- What a bag combines to: one value, several without a combine word, or a sum outside 64 bits. (This project's own.)
+-- What a bag combines to: one value, several without a combine word, or a sum outside 64 bits. (This
+-- project's own.)
 use Rattle.std.specs.Prelude.{Bool, true, false, Option, List}
 use Rattle.hh_base.specs.declared.value.Value.{Value}
 use Rattle.hh_base.specs.declared.value.CombineWord.{CombineWord}
@@ -14,4 +15,5 @@ outcome_by false true v = Overflowed
 outcome_by false false v = Single v
 
 abbrev pub outcome : Option CombineWord → List Value → Combined
-outcome w vs = outcome_by (is_several (kind_of_bag vs) w vs) (is_overflowed w vs) (combined (kind_of_bag vs) w vs)
+outcome w vs =
+    outcome_by (is_several (kind_of_bag vs) w vs) (is_overflowed w vs) (combined (kind_of_bag vs) w vs)

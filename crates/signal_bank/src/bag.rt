@@ -47,12 +47,14 @@ impl Bag {
         self.values.len()
     }
 
+    /// Whether the signal was not emitted.
     pub fn is_empty(&self) -> bool
         ensures { IsTrue result ↔ (self.now ≡ []) }
     {
         self.values.is_empty()
     }
 
+    /// The values in the order in which they were met.
     pub fn as_slice(&self) -> &[Value]
         ensures { result.now ≡ self.now }
     {

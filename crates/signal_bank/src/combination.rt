@@ -1,11 +1,14 @@
 //! What several emissions of one signal in one reaction combine to.
-ghost use Rattle.std.specs.Prelude.{◌≡◌, ◌≢◌, ◌↔◌, ◌∷◌, ◌+ℤ◌, [], true, false, not, length, IsTrue, IfOk, OnErr};
+ghost use Rattle.std.specs.Prelude.{◌≡◌, ◌≢◌, ◌↔◌, ◌∷◌, ◌+ℤ◌, [], true, false, not, length, IsTrue, IfOk};
+ghost use Rattle.std.specs.Prelude.{OnErr};
 ghost use Rattle.std.specs.List.{list_any, list_all};
 ghost use Rattle.hh_base.specs.Value.{kind_of};
 ghost use Rattle.hh_base.specs.declared.value.Value.{Value as AValue};
 ghost use Rattle.hh_base.specs.declared.value.Value.TheVariants as value;
 ghost use Rattle.hh_base.specs.declared.value.Kind.TheVariants as kind;
-ghost use Rattle.host_expr.specs.Combination.{combined, combined_by, is_several, is_overflowed, numbers_in, truths_in, whole_sum, least_of, greatest_of, all_of, any_of};
+ghost use Rattle.host_expr.specs.Combination.{combined, combined_by, is_several, is_overflowed};
+ghost use Rattle.host_expr.specs.Combination.{numbers_in, truths_in, whole_sum, least_of, greatest_of};
+ghost use Rattle.host_expr.specs.Combination.{all_of, any_of};
 ghost use Rattle.hh_term.specs.Fits.{WordFits, kind_of_word};
 ghost use Rattle.signal_bank.specs.BagKind.{kind_of_bag, AreOfOneKind};
 ghost use Rattle.signal_bank.specs.Outcome.{outcome};
@@ -25,19 +28,21 @@ pub enum Combined {
     Overflowed,
 }
 
-/// What the emissions combine to: `Several` exactly where there are two or more values other than
-/// `Unit` and no word, `Overflowed` exactly where the word is `Plus` and the whole sum is outside 64
-/// bits, else the value. The order of the emissions does not matter. Memory can run out only where there is one value,
-/// which is copied.
+/// What the emissions combine to: `Several` exactly where there are two or more values other than `Unit` and
+/// no word, `Overflowed` exactly where the word is `Plus` and the whole sum is outside 64 bits, else the value.
+/// The order of the emissions does not matter. Memory can run out only where there is one value, which is
+/// copied.
 pub fn combine(alloc: Global, bag: &Bag, word: Option<CombineWord>) -> Result<Combined, NoMemory>
     requires filled { bag.now ≢ [] }
     requires one_kind { AreOfOneKind bag.now }
     requires fits { WordFits (kind_of_bag bag.now) word }
     ensures outcome { IfOk result (λ c. c ≡ outcome word bag.now) }
-    ensures several { (result ≡ Ok Combined.Several) ↔ (is_several (kind_of_bag bag.now) word bag.now ≡ true) }
+    ensures several { (result ≡ Ok Combined.Several)
+        ↔ (is_several (kind_of_bag bag.now) word bag.now ≡ true) }
     ensures overflowed { (result ≡ Ok Combined.Overflowed) ↔ (is_overflowed word bag.now ≡ true) }
     ensures single { IfOk result (λ c. (v : AValue) → (c ≡ Combined.Single v)
-        ↔ ((is_several (kind_of_bag bag.now) word bag.now ≡ false) × (is_overflowed word bag.now ≡ false) × (v ≡ combined (kind_of_bag bag.now) word bag.now))) }
+        ↔ ((is_several (kind_of_bag bag.now) word bag.now ≡ false) × (is_overflowed word bag.now ≡ false)
+            × (v ≡ combined (kind_of_bag bag.now) word bag.now))) }
     ensures memory { OnErr result (length bag.now ≡ 1) }
 {
     match bag.as_slice() {

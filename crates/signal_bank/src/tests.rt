@@ -8,7 +8,6 @@ ghost use Rattle.signal_bank.specs.BagKind.{kind_of_bag, AreOfKind, AreOfOneKind
 
 use crate::bag::Bag;
 use crate::combination::{Combined, combine};
-use crate::laws::{bag_is_of_its_kind, outcome_in_any_order};
 use hh_base::literal::{print_literal, read_literal};
 use hh_base::value::{CombineWord, Kind, Value};
 use std::alloc::Global;
@@ -176,34 +175,5 @@ fn without_a_word(rt: HostRuntime) -> Result<(), Fail> {
         let found = answer(rt.alloc(), literals, None)?;
         assert_eq!(rt; found.as_str(), want, "at {literals}");
     }
-    Ok(())
-}
-
-#[test]
-fn in_any_order(rt: HostRuntime) -> Result<(), Fail> {
-    let orders = [
-        "9223372036854775807 1 -1",
-        "9223372036854775807 -1 1",
-        "1 9223372036854775807 -1",
-        "1 -1 9223372036854775807",
-        "-1 9223372036854775807 1",
-        "-1 1 9223372036854775807",
-    ];
-    for literals in orders {
-        let sum = answer(rt.alloc(), literals, Some(CombineWord::Plus))?;
-        assert_eq!(rt; sum.as_str(), "9223372036854775807", "at {literals}");
-        let least = answer(rt.alloc(), literals, Some(CombineWord::Min))?;
-        assert_eq!(rt; least.as_str(), "-1", "at {literals}");
-        let greatest = answer(rt.alloc(), literals, Some(CombineWord::Max))?;
-        assert_eq!(rt; greatest.as_str(), "9223372036854775807", "at {literals}");
-    }
-    for literals in ["true false false", "false true false", "false false true"] {
-        let all = answer(rt.alloc(), literals, Some(CombineWord::And))?;
-        assert_eq!(rt; all.as_str(), "false", "at {literals}");
-        let any = answer(rt.alloc(), literals, Some(CombineWord::Or))?;
-        assert_eq!(rt; any.as_str(), "true", "at {literals}");
-    }
-    outcome_in_any_order();
-    bag_is_of_its_kind();
     Ok(())
 }

@@ -3,10 +3,10 @@
 ghost use Rattle.std.specs.Prelude.{◌≡◌, Some, IfOk};
 ghost use Rattle.std.specs.List.{AllByRecursion};
 ghost use Rattle.hh_base.specs.declared.value.Dir.TheVariants.{Input};
-ghost use Rattle.hh_term.specs.ControlIn.{control_in};
+ghost use Rattle.hh_term.specs.Views.{control_in};
 ghost use Rattle.hh_term.specs.FirstLanguage.{HasDirection, IsFirstLanguage};
 ghost use Rattle.hh_term.specs.Marks.{IsControlOf};
-ghost use Rattle.hh_term.specs.Viewed.{kernel_of};
+ghost use Rattle.hh_term.specs.ProgramView.{kernel_of};
 ghost use Rattle.hh_term.specs.Views.{control_of};
 ghost use Rattle.sync_step.specs.Steps.{IsStepOf};
 ghost use Rattle.sync_step.specs.Walk.{program_walk, control_at};

@@ -7,7 +7,7 @@ ghost use Rattle.hh_base.specs.declared.value.Dir.TheVariants.{Input};
 ghost use Rattle.host_expr.specs.Expression.{Now};
 ghost use Rattle.hh_term.specs.FirstLanguage.{HasDirection, IsFirstLanguage};
 ghost use Rattle.hh_term.specs.Statement as statement;
-ghost use Rattle.hh_term.specs.Viewed.{kernel_of};
+ghost use Rattle.hh_term.specs.ProgramView.{kernel_of};
 ghost use Rattle.hh_term.specs.Views.{statement_of};
 
 use super::step;

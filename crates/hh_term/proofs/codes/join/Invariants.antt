@@ -4,4 +4,5 @@ use Rattle.hh_term.proofs.FlagSets.{Overwritten}
 use Rattle.hh_term.proofs.codes.join.Given as goal
 
 abbrev pub invariant-loop-c : goal.invariant-loop-c
-invariant-loop-c l = Overwritten l.initial.codes (either (codes_in l.initial.codes) (codes_in l.others)) l.c l.codes
+invariant-loop-c l =
+    Overwritten l.initial.codes (either (codes_in l.initial.codes) (codes_in l.others)) l.c l.codes

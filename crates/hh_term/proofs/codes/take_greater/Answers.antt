@@ -11,8 +11,11 @@ loop-c-preserved c =
     let n = c.loop-c.c in
     let o = c.loop-c.invariant.codes in
     let here : codes_in c.loop-c.codes n ≡ K n = o.rest n (omega arith) in
-    let a = c.either-code_so_far.ensures ∙ below_next K n c.loop-c.code_so_far (codes_in c.loop-c.codes n) c.loop-c.invariant.code_so_far here in
-    let b = c.either-other_so_far.ensures ∙ below_next L n c.loop-c.other_so_far (L n) c.loop-c.invariant.other_so_far refl in
+    let a = c.either-code_so_far.ensures
+    ∙ below_next K n c.loop-c.code_so_far
+    (codes_in c.loop-c.codes n) c.loop-c.invariant.code_so_far here in
+    let b = c.either-other_so_far.ensures
+    ∙ below_next L n c.loop-c.other_so_far (L n) c.loop-c.invariant.other_so_far refl in
     let e : c.greater.result ≡ greater_of K L n =
     c.greater.ensures
     ∙ ap (λ x. (x && c.either-other_so_far.result) || (c.either-code_so_far.result && L n)) here
@@ -30,4 +33,8 @@ returns c =
     let K = codes_in c.args.codes.now in
     let L = codes_in c.args.others.now in
     let end : c.loop-c.c ≡ 258 = omega arith in
-    finish c.args.codes.now (greater_of K L) c.loop-c.codes (subst (λ n. Overwritten c.args.codes.now (greater_of K L) n c.loop-c.codes) end c.loop-c.invariant.codes) (λ k h. greater_past K L k (past c.args.codes.now c.told-codes k h) (past c.args.others.now c.told-others k h))
+    finish c.args.codes.now (greater_of K L) c.loop-c.codes
+    (subst (λ n. Overwritten c.args.codes.now
+    (greater_of K L) n c.loop-c.codes) end c.loop-c.invariant.codes)
+    (λ k h. greater_past K L k (past c.args.codes.now c.told-codes k h)
+    (past c.args.others.now c.told-others k h))

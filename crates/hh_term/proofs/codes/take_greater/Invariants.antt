@@ -7,7 +7,8 @@ use Rattle.hh_term.proofs.codes.take_greater.Given as goal
 abbrev pub invariant-loop-c : goal.invariant-loop-c
 invariant-loop-c l =
     record {
-      codes : Overwritten l.initial.codes (greater_of (codes_in l.initial.codes) (codes_in l.others)) l.c l.codes;
+      codes : Overwritten l.initial.codes
+          (greater_of (codes_in l.initial.codes) (codes_in l.others)) l.c l.codes;
       code_so_far : l.code_so_far ≡ below (codes_in l.initial.codes) l.c;
       other_so_far : l.other_so_far ≡ below (codes_in l.others) l.c;
     }

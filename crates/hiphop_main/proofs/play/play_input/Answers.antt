@@ -1,5 +1,5 @@
 use Rattle.std.proofs.Common.{refl, map, inl}
-use Rattle.hh_term.specs.Viewed.{kernel_of}
+use Rattle.hh_term.specs.ProgramView.{kernel_of}
 use Rattle.scenario.specs.Scenario.{inputs_of_line}
 use Rattle.hiphop_main.specs.Play.{refused, accepted}
 use Rattle.hiphop_main.proofs.Plays.{log_text}

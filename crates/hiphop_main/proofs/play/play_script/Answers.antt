@@ -1,7 +1,7 @@
 use Rattle.std.proofs.Common.{map, subst, refl}
 use Rattle.std.specs.Io.KnownBytes.{Appends}
 use Rattle.hh_io.specs.Bytes.{AppendsPrefix}
-use Rattle.hh_term.specs.Viewed.{kernel_of}
+use Rattle.hh_term.specs.ProgramView.{kernel_of}
 use Rattle.scenario.specs.Scenario.{inputs_of_line}
 use Rattle.hiphop_main.specs.Play.{whole, out_of_memory, failed}
 use Rattle.hiphop_main.specs.Running.{lines_text}

@@ -1,8 +1,8 @@
 use Rattle.std.proofs.Common.{◌∙◌, refl, sym, subst, arith, rules}
 use Rattle.std.specs.Io.KnownBytes.{Appends}
 use Rattle.hh_io.specs.Bytes.{AppendsPrefix}
-use Rattle.hh_term.specs.ControlIn.{control_in}
-use Rattle.hh_term.specs.Viewed.{kernel_of}
+use Rattle.hh_term.specs.Views.{control_in}
+use Rattle.hh_term.specs.ProgramView.{kernel_of}
 use Rattle.hiphop_main.specs.Play.{AreGiven}
 use Rattle.hiphop_main.proofs.Running.{reached_first, turn_reached, turn_cut, cut_at_end, all_written, line_given, at_end, on_err_always, on_ok_then, on_err_then}
 use Rattle.hiphop_main.proofs.run.play_lines.Goals as goal

@@ -1,7 +1,7 @@
 use Rattle.std.proofs.Common.{◌≡◌, ◌≤◌, ◌+◌, map, drop}
-use Rattle.hh_term.specs.ControlIn.{control_in}
+use Rattle.hh_term.specs.Views.{control_in}
 use Rattle.hh_term.specs.Marks.{IsControlOf}
-use Rattle.hh_term.specs.Viewed.{kernel_of}
+use Rattle.hh_term.specs.ProgramView.{kernel_of}
 use Rattle.scenario.specs.Scenario.{inputs_of_line}
 use Rattle.hiphop_main.specs.Running.{Reached}
 use Rattle.hiphop_main.proofs.run.play_lines.Given as goal

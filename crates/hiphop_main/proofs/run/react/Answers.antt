@@ -1,5 +1,5 @@
-use Rattle.hh_term.specs.ControlIn.{control_in}
-use Rattle.hh_term.specs.Viewed.{kernel_of}
+use Rattle.hh_term.specs.Views.{control_in}
+use Rattle.hh_term.specs.ProgramView.{kernel_of}
 use Rattle.hiphop_main.proofs.Running.{reacts_by}
 use Rattle.hiphop_main.proofs.run.react.Goals as goal
 

@@ -1,4 +1,4 @@
-use Rattle.hh_term.specs.Viewed.{kernel_of}
+use Rattle.hh_term.specs.ProgramView.{kernel_of}
 use Rattle.hiphop_main.proofs.Scripts.{named}
 use Rattle.hiphop_main.proofs.script.named_signals.Goals as goal
 

@@ -1,6 +1,6 @@
 use Rattle.std.proofs.Common.{◌≡◌, ◌∙◌, ap, sym, subst, refl, arith, length, map}
 use Rattle.std.proofs.lemmas.List.{length-map}
-use Rattle.hh_term.specs.Viewed.{kernel_of}
+use Rattle.hh_term.specs.ProgramView.{kernel_of}
 use Rattle.scenario.specs.Scenario.{inputs_of_line}
 use Rattle.hiphop_main.proofs.Scripts.{only_input, no_module, no_scenario, lines_given, few_lines}
 use Rattle.hiphop_main.proofs.script.read_script.Goals as goal

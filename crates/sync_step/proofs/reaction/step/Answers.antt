@@ -1,6 +1,6 @@
 use Rattle.std.proofs.Common.{◌∙◌, sym, ap, subst}
-use Rattle.hh_term.specs.ControlIn.{control_in}
-use Rattle.hh_term.specs.Viewed.{kernel_of}
+use Rattle.hh_term.specs.Views.{control_in}
+use Rattle.hh_term.specs.ProgramView.{kernel_of}
 use Rattle.hh_term.specs.Views.{control_of}
 use Rattle.hh_term.specs.Marks.{IsControlOf}
 use Rattle.sync_step.specs.Walking.{flag_of, passing_below, is_among}
