@@ -1,4 +1,5 @@
 pub mod Bytes
-pub mod Ends
-pub mod Faults
+pub mod Counts
 pub mod Memory
+pub mod SinkState
+pub mod SourceState

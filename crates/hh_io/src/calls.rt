@@ -1,7 +1,6 @@
 //! At which calls an object in memory fails.
 ghost use Rattle.std.specs.Prelude.{◌≡◌, ◌<◌, ◌≤◌, ◌↔◌, ◌^◌, Contains, IsTrue};
-ghost use Rattle.hh_io.specs.Faults.{Rises};
-ghost use Rattle.hh_io.specs.Memory.{after_call};
+ghost use Rattle.hh_io.specs.Memory.{after_call, first_call};
 
 use std::marker::Model;
 
@@ -22,8 +21,9 @@ impl Model for FailingCalls {
 }
 
 impl FailingCalls {
+    /// Before the first call, with the numbers of the calls that are to fail.
     pub fn new(fails: Vec<u64>) -> FailingCalls
-        ensures { result ≡ record { fails = fails.items; next = 0; faults = 0 } }
+        ensures { result ≡ first_call fails.items }
     {
         FailingCalls {
             fails,
@@ -36,7 +36,6 @@ impl FailingCalls {
     pub fn fails_now(&mut self) -> bool
         ensures listed { IsTrue result ↔ Contains self.old.fails self.old.next }
         ensures counted { self.new ≡ after_call result self.old }
-        ensures rises { IsTrue result → Rises self.old.faults self.new.faults }
     {
         let failed = self.fails.contains(&self.next);
         self.next = self.next.saturating_add(1);

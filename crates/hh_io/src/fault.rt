@@ -2,13 +2,11 @@
 ghost use Rattle.std.specs.Prelude.{◌≡◌};
 ghost use Rattle.hh_io.specs.declared.fault.ReadEnd.TheVariants as read_end;
 ghost use Rattle.hh_io.specs.declared.fault.SinkFault.TheVariants as sink_fault;
-ghost use Rattle.hh_io.specs.Ends.{put_end_of};
 
-use hh_base::memory::NoMemory;
 use std::alloc::AllocError;
 use thiserror::Error;
 
-/// A read failed, and the source's count of faults rose.
+/// A read failed, and the source's count of faults rose by one.
 #[derive(Clone, Copy, PartialEq, Eq, Debug, Error)]
 #[error("a read failed")]
 pub struct Failed;
@@ -16,8 +14,10 @@ pub struct Failed;
 /// Why a sink took no more.
 #[derive(Clone, Copy, PartialEq, Eq, Debug, Error)]
 pub enum SinkFault {
+    /// A write failed, and the sink's count of faults rose by one.
     #[error("a write failed")]
     Failed,
+    /// Memory ran out, and no write failed.
     #[error("memory ran out")]
     NoMemory,
 }
@@ -25,19 +25,13 @@ pub enum SinkFault {
 /// Why a whole input was not read.
 #[derive(Clone, Copy, PartialEq, Eq, Debug, Error)]
 pub enum ReadEnd {
+    /// A read failed, and the source's count of faults rose by one.
     #[error("a read failed")]
     Fault,
+    /// One byte more than the limit came.
     #[error("the input is too long")]
     TooLong,
-    #[error("memory ran out")]
-    NoMemory,
-}
-
-/// Why a whole text was not put.
-#[derive(Clone, Copy, PartialEq, Eq, Debug, Error)]
-pub enum PutEnd {
-    #[error("a write failed")]
-    Fault,
+    /// Memory ran out, and no read failed.
     #[error("memory ran out")]
     NoMemory,
 }
@@ -63,24 +57,5 @@ impl From<AllocError> for ReadEnd {
 
     fn from(_error: AllocError) -> ReadEnd {
         ReadEnd::NoMemory
-    }
-}
-
-impl From<NoMemory> for ReadEnd {
-    ghost from_gives = { λ _ e. e ≡ read_end.NoMemory };
-
-    fn from(_error: NoMemory) -> ReadEnd {
-        ReadEnd::NoMemory
-    }
-}
-
-impl From<SinkFault> for PutEnd {
-    ghost from_gives = { λ fault e. e ≡ put_end_of fault };
-
-    fn from(fault: SinkFault) -> PutEnd {
-        match fault {
-            SinkFault::Failed => PutEnd::Fault,
-            SinkFault::NoMemory => PutEnd::NoMemory,
-        }
     }
 }

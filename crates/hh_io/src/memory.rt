@@ -1,10 +1,8 @@
 //! A source and a sink in memory that fail at given calls.
-ghost use Rattle.std.specs.Prelude.{◌≡◌, ℕ, List, Some, [], ◌+◌, ◌-◌, ◌<◌, ◌≤◌, ◌↔◌, length, take, IfOk, OnOk, OnErr, IsErr, IsErrOf, Contains, ◌++◌, is_err};
-ghost use Rattle.std.specs.Io.KnownBytes.{Consumes, Appends, IsAtEnd};
-ghost use Rattle.hh_io.specs.Bytes.{TakesAtMost, AppendsPrefix};
-ghost use Rattle.hh_io.specs.Faults.{Rises};
-ghost use Rattle.hh_io.specs.Memory.{after_call};
-ghost use Rattle.hh_io.specs.Ends.{is_failed};
+ghost use Rattle.std.specs.Prelude.{◌≡◌, ℕ, List, Ok, [], ◌+◌, ◌-◌, ◌<◌, ◌≤◌, ◌↔◌, length, take, IfOk, IfErr, OnErr, IsErr, IsErrOf, Contains, ◌++◌, is_err};
+ghost use Rattle.hh_io.specs.SourceState.{Gives, GivesAll, FailsReading};
+ghost use Rattle.hh_io.specs.SinkState.{Puts, CutsOff};
+ghost use Rattle.hh_io.specs.Memory.{after_call, first_call, is_failed, sink_state, source_state};
 
 use crate::calls::FailingCalls;
 use crate::fault::{Failed, SinkFault};
@@ -19,6 +17,7 @@ use std::marker::Model;
 #[derive(Drop)]
 pub struct MemSource {
     source: SureSource,
+    ends: u64,
     calls: FailingCalls,
 }
 
@@ -27,19 +26,17 @@ impl Model for MemSource {
 
     ghost Value = { Reading };
 
-    ghost view = { λ s. record { rest = s.source; calls = s.calls } };
+    ghost view = { λ s. record { rest = s.source; ends = s.ends; calls = s.calls } };
 }
 
 impl MemSource {
     /// `fails` lists the numbers of the calls that fail, counted from 0.
     pub fn new(bytes: Vec<u8>, fails: Vec<u64>) -> MemSource
-        ensures { result ≡ record {
-          rest = bytes.items;
-          calls = record { fails = fails.items; next = 0; faults = 0 };
-        } }
+        ensures { result ≡ record { rest = bytes.items; ends = 0; calls = first_call fails.items } }
     {
         MemSource {
             source: SureSource::new(bytes),
+            ends: 0,
             calls: FailingCalls::new(fails),
         }
     }
@@ -47,15 +44,20 @@ impl MemSource {
     /// The same, but that one read gives at most so many bytes.
     pub fn in_steps(bytes: Vec<u8>, fails: Vec<u64>, most: usize) -> MemSource
         requires { 0 < most }
-        ensures { result ≡ record {
-          rest = bytes.items;
-          calls = record { fails = fails.items; next = 0; faults = 0 };
-        } }
+        ensures { result ≡ record { rest = bytes.items; ends = 0; calls = first_call fails.items } }
     {
         MemSource {
             source: SureSource::in_steps(bytes, most),
+            ends: 0,
             calls: FailingCalls::new(fails),
         }
+    }
+
+    /// How often it has told its end.
+    pub fn ends(&self) -> u64
+        ensures { result ≡ self.now.ends }
+    {
+        self.ends
     }
 
     /// How often a read has failed.
@@ -67,23 +69,28 @@ impl MemSource {
 }
 
 impl Source for MemSource {
-    ghost rest = { λ s. Some s.rest };
-
-    ghost faults = { λ s. s.calls.faults };
+    ghost state = { source_state };
 
     fn read(&mut self, buf: &mut [u8]) -> Result<usize, Failed>
+        requires { 0 < length buf.old }
         ensures bound { IfOk result (λ n. n ≤ length buf.new) }
-        ensures taken { IfOk result (λ n. self.old.rest ≡ take n buf.new ++ self.new.rest) }
-        ensures end { IfOk result (λ n. n ≡ 0 → 0 < length buf.new → self.new.rest ≡ []) }
+        ensures given { IfOk result (λ n. 0 < n → Gives (source_state self.old) (source_state self.new) (take n buf.new)) }
+        ensures ended { result ≡ Ok 0 → GivesAll (source_state self.old) (source_state self.new) [] }
+        ensures failed { OnErr result (FailsReading (source_state self.old) (source_state self.new) (length buf.new)) }
+
+        // A call that fails takes nothing.
         ensures listed { IsErr result ↔ Contains self.old.calls.fails self.old.calls.next }
         ensures kept { OnErr result (self.new.rest ≡ self.old.rest) }
         ensures counted { self.new.calls ≡ after_call (is_err result) self.old.calls }
-        ensures failed { OnErr result (Rises self.old.calls.faults self.new.calls.faults) }
     {
         if self.calls.fails_now() {
             return Err(Failed);
         }
-        self.source.read(buf)
+        let came = self.source.read(buf)?;
+        if came == 0 {
+            self.ends = self.ends.saturating_add(1);
+        }
+        Ok(came)
     }
 }
 
@@ -106,7 +113,7 @@ impl Model for MemSink {
 impl MemSink {
     /// `fails` lists the numbers of the calls that fail, counted from 0.
     pub fn new(alloc: Global, fails: Vec<u64>) -> MemSink
-        ensures { result ≡ record { written = []; calls = record { fails = fails.items; next = 0; faults = 0 } } }
+        ensures { result ≡ record { written = []; calls = first_call fails.items } }
     {
         MemSink {
             sink: SureSink::new(alloc),
@@ -117,7 +124,7 @@ impl MemSink {
     /// The same, but that one write takes at most so many bytes.
     pub fn in_steps(alloc: Global, fails: Vec<u64>, most: usize) -> MemSink
         requires { 0 < most }
-        ensures { result ≡ record { written = []; calls = record { fails = fails.items; next = 0; faults = 0 } } }
+        ensures { result ≡ record { written = []; calls = first_call fails.items } }
     {
         MemSink {
             sink: SureSink::in_steps(alloc, most),
@@ -132,7 +139,7 @@ impl MemSink {
         self.sink.as_bytes()
     }
 
-    /// What was written. Takes no memory.
+    /// What was written, without a copy.
     pub fn into_bytes(self) -> Vec<u8>
         ensures { result.items ≡ self.written }
     {
@@ -148,19 +155,19 @@ impl MemSink {
 }
 
 impl Sink for MemSink {
-    ghost written = { λ s. Some s.written };
-
-    ghost faults = { λ s. s.calls.faults };
+    ghost state = { sink_state };
 
     fn write(&mut self, piece: &[u8]) -> Result<usize, SinkFault>
+        requires { 0 < length piece.now }
         ensures bound { IfOk result (λ n. n ≤ length piece.now) }
-        ensures some { IfOk result (λ n. 0 < length piece.now → 0 < n) }
-        ensures added { IfOk result (λ n. self.new.written ≡ self.old.written ++ take n piece.now) }
+        ensures some { IfOk result (λ n. 0 < n) }
+        ensures added { IfOk result (λ n. Puts (sink_state self.old) (sink_state self.new) (take n piece.now)) }
+        ensures cut_off { IfErr result (CutsOff (sink_state self.old) (sink_state self.new) piece.now) }
+
+        // A call that fails takes nothing.
         ensures listed { IsErrOf result SinkFault.Failed ↔ Contains self.old.calls.fails self.old.calls.next }
         ensures kept { IsErrOf result SinkFault.Failed → self.new.written ≡ self.old.written }
-        ensures prefix { OnErr result (AppendsPrefix (Some self.old.written) (Some self.new.written) piece.now) }
         ensures counted { self.new.calls ≡ after_call (is_failed result) self.old.calls }
-        ensures failed { IsErrOf result SinkFault.Failed → Rises self.old.calls.faults self.new.calls.faults }
     {
         if self.calls.fails_now() {
             return Err(SinkFault::Failed);

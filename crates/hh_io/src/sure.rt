@@ -1,7 +1,7 @@
 //! A source and a sink in memory that never fail.
-ghost use Rattle.std.specs.Prelude.{◌≡◌, ℕ, List, Some, [], ◌+◌, ◌-◌, ◌<◌, ◌≤◌, ◌++◌, length, take, drop, vec_len, IfOk, OnOk, IsErrOf};
+ghost use Rattle.std.specs.Prelude.{◌≡◌, ℕ, List, Some, None, [], ◌+◌, ◌-◌, ◌<◌, ◌≤◌, ◌++◌, length, take, drop, vec_len, IfOk, OnOk, IsErrOf};
 
-use crate::fault::{Failed, PutEnd, ReadEnd, SinkFault};
+use crate::fault::{Failed, ReadEnd, SinkFault};
 use crate::sink::{Sink, put_all};
 use crate::source::{Source, read_all};
 use std::alloc::Global;
@@ -40,6 +40,7 @@ impl Model for SureSource {
 }
 
 impl SureSource {
+    /// A source that gives as many bytes as are asked for.
     pub fn new(bytes: Vec<u8>) -> SureSource
         ensures { result ≡ bytes.items }
     {
@@ -56,9 +57,7 @@ impl SureSource {
 }
 
 impl Source for SureSource {
-    ghost rest = { λ s. Some s };
-
-    ghost faults = { λ _. 0 };
+    ghost state = { λ s. record { rest = Some s; ends = None; faults = 0 } };
 
     fn read(&mut self, buf: &mut [u8]) -> Result<usize, Failed> {
         let came = copy_front(&self.bytes, self.at, self.most, buf);
@@ -85,6 +84,7 @@ impl Model for SureSink {
 }
 
 impl SureSink {
+    /// A sink that takes each piece whole.
     pub fn new(alloc: Global) -> SureSink
         ensures { result ≡ [] }
     {
@@ -109,7 +109,7 @@ impl SureSink {
         &self.written
     }
 
-    /// What was written. Takes no memory.
+    /// What was written, without a copy.
     pub fn into_bytes(self) -> Vec<u8>
         ensures { result.items ≡ self }
     {
@@ -118,9 +118,7 @@ impl SureSink {
 }
 
 impl Sink for SureSink {
-    ghost written = { λ s. Some s };
-
-    ghost faults = { λ _. 0 };
+    ghost state = { λ s. record { written = Some s; faults = 0 } };
 
     fn write(&mut self, piece: &[u8]) -> Result<usize, SinkFault> {
         let count = piece.len().min(self.most);
@@ -140,9 +138,9 @@ pub fn read_surely(alloc: Global, source: &mut SureSource, limit: usize) -> Resu
 }
 
 /// Writes to a sink that never fails. Its count of faults stands, so the answer is never a fault.
-pub fn put_surely(sink: &mut SureSink, bytes: &[u8]) -> Result<(), PutEnd>
+pub fn put_surely(sink: &mut SureSink, bytes: &[u8]) -> Result<(), SinkFault>
     ensures whole { OnOk result (sink.new ≡ sink.old ++ bytes.now) }
-    ensures no_fault { IsErrOf result PutEnd.Fault → ⊥ }
+    ensures no_fault { IsErrOf result SinkFault.Failed → ⊥ }
 {
     put_all(sink, bytes)
 }

@@ -1,31 +1,29 @@
 //! Whole inputs and texts, over objects that fail and objects that take one byte at a time.
 
-use crate::fault::{PutEnd, ReadEnd};
+use crate::fault::{ReadEnd, SinkFault};
 use crate::memory::{MemSink, MemSource};
-use crate::sink::put_all;
+use crate::sink::{WAITING_LIMIT, put_all, put_waiting};
 use crate::source::read_all;
 use crate::standard::{StdSink, StdSource};
 use crate::sure::{SureSink, SureSource, put_surely, read_surely};
+use std::alloc::{AllocError, Global};
 use std::io;
 use std::io::{Read, Write};
 use std::test::Fail;
 
 #[test]
 fn reads_all(rt: HostRuntime) -> Result<(), Fail> {
-    let bytes = b"emit S;".to_vec(rt.alloc())?;
-    let mut source = MemSource::in_steps(bytes, Vec::new(rt.alloc()), 1);
-    let read = read_all(rt.alloc(), &mut source, 7)?;
-    assert_eq!(rt; read.as_slice(), b"emit S;".as_slice());
-    assert_eq!(rt; source.faults(), 0);
-    Ok(())
-}
-
-#[test]
-fn refuses_one_byte_more(rt: HostRuntime) -> Result<(), Fail> {
-    let bytes = b"emit S;".to_vec(rt.alloc())?;
-    let mut source = MemSource::new(bytes, Vec::new(rt.alloc()));
-    let outcome = read_all(rt.alloc(), &mut source, 6);
-    assert!(rt; matches!(outcome, Err(ReadEnd::TooLong)));
+    for most in [1, 7, 100] {
+        let bytes = b"emit S;".to_vec(rt.alloc())?;
+        let mut source = MemSource::in_steps(bytes, Vec::new(rt.alloc()), most);
+        let read = read_all(rt.alloc(), &mut source, 7)?;
+        assert_eq!(rt; read.as_slice(), b"emit S;".as_slice());
+        assert_eq!(rt; source.faults(), 0);
+        assert_eq!(rt; source.ends(), 1);
+    }
+    let mut source = MemSource::new(b"emit S;".to_vec(rt.alloc())?, Vec::new(rt.alloc()));
+    assert!(rt; matches!(read_all(rt.alloc(), &mut source, 6), Err(ReadEnd::TooLong)));
+    assert_eq!(rt; source.ends(), 0);
     Ok(())
 }
 
@@ -34,8 +32,7 @@ fn tells_a_failed_read(rt: HostRuntime) -> Result<(), Fail> {
     for call in 0..4 {
         let bytes = b"emit".to_vec(rt.alloc())?;
         let mut source = MemSource::in_steps(bytes, vec![in rt.alloc(); call]?, 1);
-        let outcome = read_all(rt.alloc(), &mut source, 100);
-        assert!(rt; matches!(outcome, Err(ReadEnd::Fault)));
+        assert!(rt; matches!(read_all(rt.alloc(), &mut source, 100), Err(ReadEnd::Fault)));
         assert_eq!(rt; source.faults(), 1);
     }
     Ok(())
@@ -46,16 +43,31 @@ fn puts_all(rt: HostRuntime) -> Result<(), Fail> {
     let mut sink = MemSink::in_steps(rt.alloc(), Vec::new(rt.alloc()), 1);
     put_all(&mut sink, b"ready\n")?;
     assert_eq!(rt; sink.as_bytes(), b"ready\n".as_slice());
+    let mut sink = MemSink::in_steps(rt.alloc(), vec![in rt.alloc(); 2]?, 1);
+    assert!(rt; matches!(put_all(&mut sink, b"ready\n"), Err(SinkFault::Failed)));
+    assert_eq!(rt; sink.faults(), 1);
+    assert_eq!(rt; sink.into_bytes().as_slice(), b"re".as_slice());
     Ok(())
 }
 
+fn text(alloc: Global, len: usize) -> Result<Vec<u8>, AllocError> {
+    vec![in alloc; b'x'; len]
+}
+
 #[test]
-fn tells_a_failed_write(rt: HostRuntime) -> Result<(), Fail> {
-    let mut sink = MemSink::in_steps(rt.alloc(), vec![in rt.alloc(); 2]?, 1);
-    let outcome = put_all(&mut sink, b"ready\n");
-    assert!(rt; matches!(outcome, Err(PutEnd::Fault)));
-    assert_eq!(rt; sink.faults(), 1);
-    assert_eq!(rt; sink.into_bytes().as_slice(), b"re".as_slice());
+fn puts_what_waits(rt: HostRuntime) -> Result<(), Fail> {
+    for (more, written) in [(0, WAITING_LIMIT), (1, WAITING_LIMIT + 1)] {
+        let mut sink = MemSink::new(rt.alloc(), Vec::new(rt.alloc()));
+        let mut waiting = text(rt.alloc(), WAITING_LIMIT - 1)?;
+        put_waiting(&mut sink, &mut waiting)?;
+        assert_eq!(rt; sink.as_bytes().len(), 0);
+        for _ in 0..more + 1 {
+            waiting.push(b'y')?;
+        }
+        put_waiting(&mut sink, &mut waiting)?;
+        assert_eq!(rt; sink.as_bytes().len(), written);
+        assert_eq!(rt; waiting.len(), 0);
+    }
     Ok(())
 }
 
@@ -108,17 +120,13 @@ fn adapts_std(rt: HostRuntime) -> Result<(), Fail> {
     let mut sink = StdSink::new(Vec::new(rt.alloc()));
     put_all(&mut sink, &read)?;
     assert_eq!(rt; sink.into_writer().as_slice(), b"tick".as_slice());
-    Ok(())
-}
-
-#[test]
-fn tells_what_std_fails_at(rt: HostRuntime) -> Result<(), Fail> {
     let mut source = StdSource::new(Breaks { given: false });
-    let outcome = read_all(rt.alloc(), &mut source, 10);
-    assert!(rt; matches!(outcome, Err(ReadEnd::Fault)));
+    assert!(rt; matches!(read_all(rt.alloc(), &mut source, 10), Err(ReadEnd::Fault)));
     assert_eq!(rt; source.faults(), 1);
     let mut sink = StdSink::new(Full);
-    assert!(rt; matches!(put_all(&mut sink, b"x"), Err(PutEnd::Fault)));
+    assert!(rt; matches!(put_all(&mut sink, b"x"), Err(SinkFault::Failed)));
+    assert_eq!(rt; sink.faults(), 1);
+    put_all(&mut sink, b"")?;
     assert_eq!(rt; sink.faults(), 1);
     Ok(())
 }

@@ -61,7 +61,7 @@ pub sum_met : (a n r t : ℤ) (xs ns : List ℤ) → a +ℤ whole_sum xs ≡ t �
     → r +ℤ whole_sum ns ≡ t
 sum_met a n r t xs ns whole here new =
     ap (λ m. m +ℤ whole_sum ns) new ∙ sum_turn a n (whole_sum ns) ∙ ap (λ l. a +ℤ whole_sum l) (sym here)
-        ∙ whole
+    ∙ whole
 
 least_turn : (m n k : ℤ) → int_min (int_min m n) k ≡ int_min m (int_min n k)
 least_turn m n k = grind (arith, ints)

@@ -36,7 +36,7 @@ pub outcome_in_any_order : OutcomeInAnyOrder
 outcome_in_any_order w vs us all p =
     let k = kind_of_bag us in
     ap (λ k. outcome_by (is_several k w vs) (is_overflowed w vs) (combined k w vs))
-        (kind_reordered vs us all p)
+    (kind_reordered vs us all p)
     ∙ ap (λ s. outcome_by s (is_overflowed w vs) (combined k w vs)) (several_in_any_order k w vs us p)
     ∙ ap (λ o. outcome_by (is_several k w us) o (combined k w vs)) (overflowed_in_any_order w vs us p)
     ∙ ap (λ v. outcome_by (is_several k w us) (is_overflowed w us) v) (combined_in_any_order k w vs us p)

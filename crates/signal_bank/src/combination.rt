@@ -42,7 +42,7 @@ pub fn combine(alloc: Global, bag: &Bag, word: Option<CombineWord>) -> Result<Co
     ensures overflowed { (result ≡ Ok Combined.Overflowed) ↔ (is_overflowed word bag.now ≡ true) }
     ensures single { IfOk result (λ c. (v : AValue) → (c ≡ Combined.Single v)
         ↔ ((is_several (kind_of_bag bag.now) word bag.now ≡ false) × (is_overflowed word bag.now ≡ false)
-            × (v ≡ combined (kind_of_bag bag.now) word bag.now))) }
+        × (v ≡ combined (kind_of_bag bag.now) word bag.now))) }
     ensures memory { OnErr result (length bag.now ≡ 1) }
 {
     match bag.as_slice() {

@@ -1,12 +1,12 @@
 use Rattle.std.proofs.Common.{◌≡◌, ◌-◌, ◌≤◌, length, take}
-use Rattle.std.specs.Io.KnownBytes.{Appends}
+use Rattle.hh_io.specs.SinkState.{Puts}
 use Rattle.hh_io.proofs.sink.put_all.Given as goal
 
 abbrev pub invariant-loop-put : goal.invariant-loop-put
 invariant-loop-put g l = record {
   within : l.put ≤ length l.bytes;
-  added : Appends (g.K.Sink.written l.fn.sink) (g.K.Sink.written l.sink) (take l.put l.bytes);
-  quiet : g.K.Sink.faults l.sink ≡ g.K.Sink.faults l.fn.sink;
+  added : Puts (g.K.Sink.state l.fn.sink) (g.K.Sink.state l.sink) (take l.put l.bytes);
+  untouched : l.put ≡ 0 → g.K.Sink.state l.sink ≡ g.K.Sink.state l.fn.sink;
 }
 
 abbrev pub decreases-loop-put : goal.decreases-loop-put

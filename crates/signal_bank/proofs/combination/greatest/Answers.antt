@@ -14,11 +14,11 @@ loop-value-preserved c = elim c.match-value.branch [
       let number = to_z-of_z w64 w.in-Int.number fits in
       let result = to_z-of_z w64 w.max-greatest.result (record { sfits = w.max-greatest.type_inv }) in
       let new : to_z w64 c.match-value.greatest-bits
-          ≡ int_max (to_z w64 c.loop-value.greatest-bits) w.in-Int.number = cc in
+      ≡ int_max (to_z w64 c.loop-value.greatest-bits) w.in-Int.number = cc in
       greatest_met _ _ _ _ _ _ c.loop-value.invariant
-          (numbers_here _ _ _ c.loop-value-test.true c.value-item.is _ w.in-Int.is) new)
+      (numbers_here _ _ _ c.loop-value-test.true c.value-item.is _ w.in-Int.is) new)
   | in_default w ↦ (
       let past =
-          numbers_past c.args.rest.now _ _ c.loop-value-test.true c.value-item.is w.in_default.not-Int in
+      numbers_past c.args.rest.now _ _ c.loop-value-test.true c.value-item.is w.in_default.not-Int in
       cc)
 ]

@@ -12,7 +12,7 @@ loop-value-preserved c = elim c.match-value.branch [
   | in-Int w ↦ (
       let fits : SFits w64 w.in-Int.number = search rules in
       let new : to_z w128 c.match-value.sum-bits ≡ to_z w128 c.loop-value.sum-bits +ℤ w.in-Int.number =
-          omega (arith, ints) in
+      omega (arith, ints) in
       record {
         whole = sum_met _ _ _ _ _ _ c.loop-value.invariant.whole
             (numbers_here _ _ _ c.loop-value-test.true c.value-item.is _ w.in-Int.is) new;
@@ -21,6 +21,6 @@ loop-value-preserved c = elim c.match-value.branch [
       })
   | in_default w ↦ (
       let past =
-          numbers_past c.args.rest.now _ _ c.loop-value-test.true c.value-item.is w.in_default.not-Int in
+      numbers_past c.args.rest.now _ _ c.loop-value-test.true c.value-item.is w.in_default.not-Int in
       record { whole = cc; low = omega (arith, ints); high = omega (arith, ints) })
 ]
