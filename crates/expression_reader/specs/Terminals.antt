@@ -2,7 +2,8 @@
 -- limits. This project's own.
 use Rattle.std.specs.Prelude.{◌≡◌, ℕ, ◌+◌, Bool, true, false, not, List, [], ◌∷◌, Some, refl, codes, if◌then◌else◌}
 use Rattle.std.specs.Str.{bytes_eq}
-use Rattle.module_tree.specs.declared.limits.TheConstants.{OPEN_LIMIT, EXPRESSION_LIMIT}
+use Rattle.host_expr.specs.declared.expr.TheConstants.{EXPRESSION_LIMIT}
+use Rattle.module_tree.specs.declared.limits.TheConstants.{OPEN_LIMIT}
 use Rattle.hh_base.specs.declared.keyword.Keyword.{Keyword}
 use Rattle.hh_base.specs.declared.keyword.Keyword.TheVariants as w
 use Rattle.module_token.specs.declared.punct.Punct.{Punct}

@@ -5,9 +5,9 @@ ghost use Rattle.grammar.specs.Tokens.{is};
 
 use grammar::kinds::Kinds;
 use hh_base::keyword::Keyword;
+use host_expr::expr::EXPRESSION_LIMIT;
 use module_token::punct::Punct;
 use module_token::token::TokenKind;
-use module_tree::limits::EXPRESSION_LIMIT;
 
 /// A terminal symbol of the grammar: what the reader looks at to choose a rule. The words from `Now` on have
 /// a meaning behind `.` or `combine`, and are names elsewhere, as `Word` is.

@@ -14,7 +14,8 @@ use Rattle.hh_base.specs.declared.value.CombineWord.TheVariants as word
 use Rattle.host_expr.specs.Expression.{expression_of}
 use Rattle.host_expr.specs.Kinds.{kind_of_expression}
 use Rattle.host_expr.specs.Measures.{leaves_and_operators}
-use Rattle.module_tree.specs.declared.limits.TheConstants.{EXPRESSION_LIMIT, COUNT_LIMIT}
+use Rattle.host_expr.specs.declared.expr.TheConstants.{EXPRESSION_LIMIT}
+use Rattle.module_tree.specs.declared.limits.TheConstants.{COUNT_LIMIT}
 use Rattle.module_tree.specs.declared.source.NameAt.{NameAt}
 use Rattle.module_tree.specs.declared.source.ExprAt.{ExprAt}
 use Rattle.module_tree.specs.declared.source.SignalNode.{SignalNode}

@@ -4,7 +4,7 @@ use Rattle.std.specs.Prelude.{ℕ, suc, ◌+◌, ◌&&◌, Bool, true, List, nat
 use Rattle.host_expr.specs.declared.expr.Expr.{Expr}
 use Rattle.host_expr.specs.declared.expr.ExprNode.TheOpen as e
 use Rattle.host_expr.specs.declared.expr.ExprNode.TheFolds.{fold-Expr}
-use Rattle.module_tree.specs.declared.limits.TheConstants.{EXPRESSION_LIMIT}
+use Rattle.host_expr.specs.declared.expr.TheConstants.{EXPRESSION_LIMIT}
 use Rattle.module_tree.specs.Parentheses.{levelled}
 use Rattle.module_tree.specs.SourceWords.{is_written_name, is_written_number, is_written_text}
 

@@ -3,8 +3,5 @@
 /// The most `(` and `{` that are open at one place.
 pub const OPEN_LIMIT: u8 = 128;
 
-/// The most leaves and operators of an outermost expression.
-pub const EXPRESSION_LIMIT: u32 = 1_024;
-
 /// The largest number of `count`; the least is 1.
 pub const COUNT_LIMIT: u64 = 64;
