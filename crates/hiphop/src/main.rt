@@ -5,12 +5,10 @@ use hh_base::command_line::CommandLine;
 use hh_base::memory::NoMemory;
 use hh_io::standard::{StdSink, StdSource};
 use hiphop_main::command::hiphop;
+use hiphop_main::ending::Cause;
 use std::process::ExitCode;
 use std::rt::Env;
 use std::{env, io};
-
-/// The exit status where memory ran out.
-const NO_MEMORY: u8 = 5;
 
 /// The words behind the program's name. Words that are not UTF-8 are no command, so they are left out whole.
 fn words_of(rt: &(impl Env + AllocGlobal)) -> Result<CommandLine, NoMemory> {
@@ -28,9 +26,9 @@ fn words_of(rt: &(impl Env + AllocGlobal)) -> Result<CommandLine, NoMemory> {
 
 fn main(rt: HostRuntime) -> ExitCode {
     let Ok(words) = words_of(&rt) else {
-        return ExitCode::from(NO_MEMORY);
+        return ExitCode::from(Cause::NoMemory.status());
     };
     let mut source = StdSource::new(rt.reader());
     let mut sink = StdSink::new(io::writer(&rt));
-    ExitCode::from(hiphop(rt.alloc(), &words, &mut source, &mut sink).status)
+    ExitCode::from(hiphop(rt.alloc(), &words, &mut source, &mut sink).status())
 }

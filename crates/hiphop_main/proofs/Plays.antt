@@ -1,18 +1,17 @@
 -- How a call of `play` ends.
-use Rattle.std.proofs.Common.{◌≡◌, ℕ, zero, suc, ◌+◌, ◌≤◌, Option, Some, None, List, [], ◌∷◌, ◌++◌, length, map, take, slice_get, refl, ap, sym, subst, ◌∙◌, ◌⊎◌, inl, inr, arith, append-nil, length-append}
-use Rattle.std.specs.Io.KnownBytes.{Appends, Consumes, IsAtEnd}
-use Rattle.hh_io.specs.Bytes.{Takes, AppendsPrefix}
-use Rattle.hh_io.specs.Faults.{Rises}
+use Rattle.std.proofs.Common.{◌≡◌, ◌≢◌, ℕ, ◌+◌, ◌≤◌, Option, Some, None, List, [], ◌∷◌, ◌++◌, length, map, slice_get, ap, sym, subst, ◌∙◌, arith, append-nil, length-append}
+use Rattle.std.specs.Io.KnownBytes.{Consumes, IsAtEnd}
+use Rattle.hh_io.specs.SinkState.{SinkState, Puts}
 use Rattle.hh_term.specs.Kernel.{Kernel}
 use Rattle.reactor.specs.Core.{begin}
 use Rattle.reactor.proofs.Recorded.{recorded, recorded_legal, replies_in-recorded, events_of-recorded}
 use Rattle.scenario.specs.Print.{printed}
 use Rattle.hiphop_main.specs.declared.ending.Cause.{Cause}
-use Rattle.hiphop_main.specs.declared.ending.Cause.TheVariants.{Fine, ReadFault, Usage, Module, NoMemory, WriteFault, TooLong}
-use Rattle.hiphop_main.specs.Status.{refusal_line}
-use Rattle.hiphop_main.specs.Play.{IsPlay, input_limit, IsInput, IsOnlyInput, IsNotBuilt, IsLogOf, IsLogText, event_of_line, ReadWhole, IsInputDue, refused, accepted, IsDue, usage, too_long, input, Ends, whole, out_of_memory, failed, Seen, seen, Played, ended, read_fault, no_memory, PlaysLog, SaysUsage, IsUsageEnd, Accepts, CompletesUnlessCutOff}
+use Rattle.hiphop_main.specs.declared.ending.Cause.TheVariants.{Fine, Usage, TooLong}
+use Rattle.hiphop_main.specs.Ends.{Ends, whole, out_of_memory, failed}
+use Rattle.hiphop_main.specs.Exchange.{Exchange}
+use Rattle.hiphop_main.specs.Play.{IsInput, IsOnlyInput, IsLogText, event_of_line, IsDue, refused, accepted, InputPlayed, answered, unanswered, Played, read, too_long, read_fault, no_memory, PlaysLog, Accepts, CompletesUnlessCutOff, Plays}
 use Rattle.hiphop_main.specs.Running.{lines_text}
-use Rattle.hiphop_main.proofs.Puts.{appends_nothing}
 
 pub no_word : (ws : List (List ℕ)) (p : List ℕ) → None ≡ slice_get ws 0 → ws ≡ p ∷ [] → ⊥
 no_word [] p g e = cc
@@ -26,9 +25,6 @@ one_word (x ∷ y ∷ zs) w p g l e = absurd (let no_more : ⊥ = omega arith in
 pub first_word : (ws : List (List ℕ)) (w p : List ℕ) → Some w ≡ slice_get ws 0 → ws ≡ p ∷ [] → w ≡ p
 first_word [] w p g e = cc
 first_word (x ∷ xs) w p g e = cc
-
-pub nothing_put : (w : Option (List ℕ)) (text : List ℕ) → AppendsPrefix w w text
-nothing_put w text = (0, omega arith, appends_nothing w)
 
 -- the log that a run records is the one that is due
 pub log_text : (bytes : List ℕ) (K : Kernel) (lines : List (List ℕ)) → IsOnlyInput bytes K lines → IsLogText bytes (lines_text K lines)
@@ -58,67 +54,66 @@ consumed_within (Some xs) (Some ys) told bytes e c =
 
 -- ---- from how a call ends to each promise
 
-fine_due : (words : List (List ℕ)) (s : Seen) (due : Cause) (text : List ℕ) → IsDue words s.rest_before s.rest_after due text → Appends s.written_before s.written_after text → due ≡ Fine → PlaysLog words s
-fine_due words s due text (usage p) a h = cc
-fine_due words s due text (too_long p t) a h = cc
-fine_due words s due text (input {bytes} p r (refused n)) a h = cc
-fine_due words s due text (input {bytes} p r (accepted l)) a h = (p, bytes, text, r, l, a)
+ends_fine : (due cause : Cause) (text : List ℕ) (old new : SinkState) → Ends due text old new cause → cause ≡ Fine → (due ≡ Fine) × Puts old new text
+ends_fine due cause text old new (whole p) h = (h, p)
+ends_fine due cause text old new (out_of_memory p) h = cc
+ends_fine due cause text old new (failed p) h = cc
 
-fine_ends : (words : List (List ℕ)) (s : Seen) (due cause : Cause) (text : List ℕ) → IsDue words s.rest_before s.rest_after due text → Ends due text s.written_before s.written_after s.writes_failed_before s.writes_failed_after cause → cause ≡ Fine → PlaysLog words s
-fine_ends words s due cause text d (whole a q) h = fine_due words s due text d a h
-fine_ends words s due cause text d (out_of_memory a q) h = cc
-fine_ends words s due cause text d (failed a r) h = cc
+due_fine : (bytes text : List ℕ) (due : Cause) → IsDue bytes due text → due ≡ Fine → IsLogText bytes text
+due_fine bytes text due (refused n) h = cc
+due_fine bytes text due (accepted l) h = l
 
-pub played_fine : (words : List (List ℕ)) (s : Seen) (cause : Cause) → Played words s cause → cause ≡ Fine → PlaysLog words s
-played_fine words s _ (ended {due} {cause = last} {text} d e q) h = fine_ends words s due last text d e h
-played_fine words s cause (read_fault p r a q) h = cc
-played_fine words s cause (no_memory p a q g) h = cc
+input_fine : (bytes : List ℕ) (old new : SinkState) (cause : Cause) → InputPlayed bytes old new cause → cause ≡ Fine → (text : List ℕ) × IsLogText bytes text × Puts old new text
+input_fine bytes old new _ (answered {due} {cause = last} {text} d e) h = let f = ends_fine due last text old new e h in (text, due_fine bytes text due d f.0, f.1)
+input_fine bytes old new cause (unanswered s) h = cc
 
-usage_of : (words : List (List ℕ)) (s : Seen) (due : Cause) (text : List ℕ) → IsDue words s.rest_before s.rest_after due text → Appends s.written_before s.written_after text → due ≡ Usage → SaysUsage words s
-usage_of words s due text (usage p) a h = (p, a)
-usage_of words s due text (too_long p t) a h = cc
-usage_of words s due text (input p r (refused n)) a h = cc
-usage_of words s due text (input p r (accepted l)) a h = cc
+played_fine : (x : Exchange) (cause : Cause) → Played x cause → cause ≡ Fine → PlaysLog x
+played_fine x _ (read {input} {cause = last} r i) h =
+    let f = input_fine input x.sink_before x.sink_after last i h in record { input = input; text = f.0; read = r; log = f.1; written = f.2 }
+played_fine x _ (too_long {cause = last} t e) h = let f = (ends_fine TooLong last _ x.sink_before x.sink_after e h).0 in cc
+played_fine x cause (read_fault f s) h = cc
+played_fine x cause (no_memory a s) h = cc
 
-usage_ends : (words : List (List ℕ)) (s : Seen) (due cause : Cause) (text : List ℕ) → IsDue words s.rest_before s.rest_after due text → Ends due text s.written_before s.written_after s.writes_failed_before s.writes_failed_after cause → cause ≡ Usage → SaysUsage words s
-usage_ends words s due cause text d (whole a q) h = usage_of words s due text d a h
-usage_ends words s due cause text d (out_of_memory a q) h = cc
-usage_ends words s due cause text d (failed a r) h = cc
+ends_command : (due cause : Cause) (text : List ℕ) (old new : SinkState) → Ends due text old new cause → due ≢ Usage → cause ≢ Usage
+ends_command due cause text old new (whole p) n = n
+ends_command due cause text old new (out_of_memory p) n = λ h. cc
+ends_command due cause text old new (failed p) n = λ h. cc
 
-pub played_usage : (words : List (List ℕ)) (s : Seen) (cause : Cause) → Played words s cause → cause ≡ Usage → SaysUsage words s
-played_usage words s _ (ended {due} {cause = last} {text} d e q) h = usage_ends words s due last text d e h
-played_usage words s cause (read_fault p r a q) h = cc
-played_usage words s cause (no_memory p a q g) h = cc
+due_command : (bytes text : List ℕ) (due : Cause) → IsDue bytes due text → due ≢ Usage
+due_command bytes text due (refused n) = λ h. cc
+due_command bytes text due (accepted l) = λ h. cc
 
-due_usage : (words : List (List ℕ)) (s : Seen) (due : Cause) (text : List ℕ) → IsDue words s.rest_before s.rest_after due text → ¬ IsPlay words → IsUsageEnd due
-due_usage words s due text (usage p) n = tt
-due_usage words s due text (too_long p t) n = absurd (n p)
-due_usage words s due text (input p r i) n = absurd (n p)
+input_command : (bytes : List ℕ) (old new : SinkState) (cause : Cause) → InputPlayed bytes old new cause → cause ≢ Usage
+input_command bytes old new _ (answered {due} {cause = last} {text} d e) = ends_command due last text old new e (due_command bytes text due d)
+input_command bytes old new cause (unanswered s) = λ h. cc
 
-ends_usage : (words : List (List ℕ)) (s : Seen) (due cause : Cause) (text : List ℕ) → IsDue words s.rest_before s.rest_after due text → Ends due text s.written_before s.written_after s.writes_failed_before s.writes_failed_after cause → ¬ IsPlay words → IsUsageEnd cause
-ends_usage words s due cause text d (whole a q) n = due_usage words s due text d n
-ends_usage words s due cause text d (out_of_memory a q) n = tt
-ends_usage words s due cause text d (failed a r) n = tt
+played_command : (x : Exchange) (cause : Cause) → Played x cause → cause ≢ Usage
+played_command x _ (read {input} {cause = last} r i) = input_command input x.sink_before x.sink_after last i
+played_command x _ (too_long {cause = last} t e) = ends_command TooLong last _ x.sink_before x.sink_after e (λ h. cc)
+played_command x cause (read_fault f s) = λ h. cc
+played_command x cause (no_memory a s) = λ h. cc
 
-pub played_usage_due : (words : List (List ℕ)) (s : Seen) (cause : Cause) → Played words s cause → ¬ IsPlay words → IsUsageEnd cause
-played_usage_due words s _ (ended {due} {cause = last} {text} d e q) n = ends_usage words s due last text d e n
-played_usage_due words s cause (read_fault p r a q) n = absurd (n p)
-played_usage_due words s cause (no_memory p a q g) n = absurd (n p)
+ends_complete : (x : Exchange) (due cause : Cause) (text : List ℕ) → Ends due text x.sink_before x.sink_after cause → CompletesUnlessCutOff x due → CompletesUnlessCutOff x cause
+ends_complete x due cause text (whole p) c = c
+ends_complete x due cause text (out_of_memory p) c = tt
+ends_complete x due cause text (failed p) c = p.fault
 
-due_complete : (words : List (List ℕ)) (s : Seen) (due : Cause) (text : List ℕ) → IsDue words s.rest_before s.rest_after due text → Accepts words s.rest_before → CompletesUnlessCutOff s due
-due_complete words s due text (usage p) a = absurd (p a.play)
-due_complete words s due text (too_long p t) a =
-    absurd (let more = consumed_within s.rest_before s.rest_after a.input t.0 a.told t.2 in let size = t.1 in let most = a.within in let no_more : ⊥ = omega arith in no_more)
-due_complete words s due text (input {bytes} p r (refused n)) a =
-    absurd (n a.program a.lines (subst (λ b. IsInput b a.program a.lines) (consumed_all s.rest_before s.rest_after a.input bytes a.told r.came r.ended) a.input_is))
-due_complete words s due text (input p r (accepted l)) a = tt
+due_complete : (x : Exchange) (bytes text : List ℕ) (due : Cause) (K : Kernel) (lines : List (List ℕ)) → IsDue bytes due text → IsInput bytes K lines → CompletesUnlessCutOff x due
+due_complete x bytes text due K lines (refused n) i = absurd (n K lines i)
+due_complete x bytes text due K lines (accepted l) i = tt
 
-ends_complete : (words : List (List ℕ)) (s : Seen) (due cause : Cause) (text : List ℕ) → IsDue words s.rest_before s.rest_after due text → Ends due text s.written_before s.written_after s.writes_failed_before s.writes_failed_after cause → Accepts words s.rest_before → CompletesUnlessCutOff s cause
-ends_complete words s due cause text d (whole b q) a = due_complete words s due text d a
-ends_complete words s due cause text d (out_of_memory b q) a = tt
-ends_complete words s due cause text d (failed b r) a = r
+input_complete : (x : Exchange) (bytes : List ℕ) (cause : Cause) (K : Kernel) (lines : List (List ℕ)) → InputPlayed bytes x.sink_before x.sink_after cause → IsInput bytes K lines → CompletesUnlessCutOff x cause
+input_complete x bytes _ K lines (answered {due} {cause = last} {text} d e) i = ends_complete x due last text e (due_complete x bytes text due K lines d i)
+input_complete x bytes cause K lines (unanswered s) i = tt
 
-pub played_complete : (words : List (List ℕ)) (s : Seen) (cause : Cause) → Played words s cause → Accepts words s.rest_before → CompletesUnlessCutOff s cause
-played_complete words s _ (ended {due} {cause = last} {text} d e q) a = ends_complete words s due last text d e a
-played_complete words s cause (read_fault p r b q) a = r
-played_complete words s cause (no_memory p b q g) a = tt
+played_complete : (x : Exchange) (cause : Cause) → Played x cause → Accepts x.source_before → CompletesUnlessCutOff x cause
+played_complete x _ (read {input} {cause = last} r i) a =
+    let same : a.input ≡ input = consumed_all x.source_before.rest x.source_after.rest a.input input a.told r.gave.came r.gave.ended in
+    input_complete x input last a.program a.lines i (subst (λ b. IsInput b a.program a.lines) same a.input_is)
+played_complete x _ (too_long {cause = last} t e) a =
+    absurd (let more = consumed_within x.source_before.rest x.source_after.rest a.input t.0 a.told t.2.came in let size = t.1 in let most = a.within in let no_more : ⊥ = omega arith in no_more)
+played_complete x cause (read_fault f s) a = f.fault
+played_complete x cause (no_memory g s) a = tt
+
+pub plays : (x : Exchange) (cause : Cause) → Played x cause → Plays x cause
+plays x cause p = record { ends = p; fine = played_fine x cause p; complete = played_complete x cause p; command = played_command x cause p }

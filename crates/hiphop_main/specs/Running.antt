@@ -1,8 +1,8 @@
--- How the play of a program stands between two lines of its scenario: the machine's state, what was written and what waits to be.
--- (This project's own.)
-use Rattle.std.specs.Prelude.{◌≡◌, ℕ, Option, List, ◌++◌, length, map}
-use Rattle.std.specs.Io.KnownBytes.{Appends}
-use Rattle.hh_io.specs.Bytes.{AppendsPrefix}
+-- How the play of a program goes on by a line of its scenario: the machine's state, what was written and what waits to be. (This
+-- project's own.)
+use Rattle.std.specs.Prelude.{◌≡◌, ℕ, ◌<◌, List, ◌++◌, length, map}
+use Rattle.hh_io.specs.declared.sink.TheConstants.{WAITING_LIMIT}
+use Rattle.hh_io.specs.SinkState.{SinkState, Puts}
 use Rattle.hh_term.specs.Kernel.{Kernel}
 use Rattle.hh_term.specs.Selection.{Control}
 use Rattle.reactor.specs.Core.{State, begin, reply_of, next_state, replies}
@@ -25,22 +25,17 @@ pub record Reacts (S : State) (K : Kernel) (number : ℕ) (inputs before after :
   pub counts : count ≡ number_after number (reply_of S (event_of_line inputs))
   pub stands : Stands (next_state S (event_of_line inputs)) K next
 
--- the same where a part of the text was written meanwhile
-pub record Advances (S : State) (K : Kernel) (number : ℕ) (inputs before after : List ℕ) (old new : Option (List ℕ)) (next : Control) (count : ℕ) : Type 0 where
+-- the same where a part of the text may have been written meanwhile
+pub record Advances (S : State) (K : Kernel) (number : ℕ) (inputs before after : List ℕ) (old new : SinkState) (next : Control) (count : ℕ) : Type 0 where
   pub text : List ℕ
-  pub put : Appends old new text
+  pub put : Puts old new text
   pub whole : before ++ line_text S K number inputs ≡ text ++ after
+  -- less than the limit goes on waiting, and a text that is shorter is not written yet
+  pub waits : length after < WAITING_LIMIT
+  pub patient : length (before ++ line_text S K number inputs) < WAITING_LIMIT → new ≡ old
   pub counts : count ≡ number_after number (reply_of S (event_of_line inputs))
   pub stands : Stands (next_state S (event_of_line inputs)) K next
 
 -- all that is due for the lines of a scenario
 abbrev pub lines_text : Kernel → List (List ℕ) → List ℕ
 lines_text K lines = printed K.signals 1 (replies (begin K) (map event_of_line lines))
-
--- before the lines that are left: what was written, what waits and what is left make up what is due
-pub record Reached (K : Kernel) (lines left : List (List ℕ)) (number : ℕ) (c : Control) (waits : List ℕ) (old new : Option (List ℕ)) : Type 0 where
-  pub state : State
-  pub stands : Stands state K c
-  pub text : List ℕ
-  pub put : Appends old new text
-  pub due : lines_text K lines ≡ text ++ (waits ++ printed K.signals number (replies state (map event_of_line left)))

@@ -11,24 +11,23 @@ pub enum ModuleKind {
     NotBuilt,
 }
 
-/// Why a command ended as it did. A module is refused at a position, for a kind, with the number that
-/// passed a limit, or 0.
+/// Why a command ended as it did.
 #[derive(Clone, Copy, PartialEq, Eq, Debug)]
 pub enum Cause {
+    /// What the command does was done, and all of its text was written.
     Fine,
+    /// A read failed.
     ReadFault,
+    /// The words are no command.
     Usage,
+    /// The module was refused at a position, for a kind, with the number that passed a limit, or 0.
     Module(Pos, ModuleKind, u64),
+    /// Memory ran out.
     NoMemory,
+    /// A write failed.
     WriteFault,
+    /// The input has more bytes than `INPUT_LIMIT`.
     TooLong,
-}
-
-/// The exit status of a command, and its cause.
-#[derive(Clone, Copy, PartialEq, Eq, Debug)]
-pub struct Outcome {
-    pub status: u8,
-    pub cause: Cause,
 }
 
 impl Cause {

@@ -3,6 +3,7 @@
 
 pub mod command;
 pub mod ending;
+pub mod limits;
 pub mod play;
 mod refusal;
 mod run;

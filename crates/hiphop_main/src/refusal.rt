@@ -2,14 +2,17 @@
 
 ghost use Rattle.std.specs.Prelude.{◌≡◌, IfOk};
 ghost use Rattle.std.specs.String.{string_bytes};
+ghost use Rattle.hiphop_main.specs.Ends.{Ends};
 ghost use Rattle.hiphop_main.specs.Status as spec;
 
 use crate::ending::{Cause, ModuleKind};
 use hh_base::memory::NoMemory;
+use hh_io::fault::SinkFault;
+use hh_io::sink::{Sink, put_all};
 use std::alloc::Global;
 
 /// The line that a refusal writes, with its LF; nothing for the causes that refuse nothing.
-pub fn refusal_line(alloc: Global, cause: Cause) -> Result<String, NoMemory>
+fn refusal_line(alloc: Global, cause: Cause) -> Result<String, NoMemory>
     ensures { IfOk result (λ t. string_bytes t ≡ spec.refusal_line cause) }
 {
     let text = match cause {
@@ -33,5 +36,19 @@ fn kind_word(kind: ModuleKind) -> &'static str
 {
     match kind {
         ModuleKind::NotBuilt => "NotBuilt",
+    }
+}
+
+/// Writes the line of a refusal, and answers how that ended: by the cause itself where the line is whole.
+pub fn refuse<K: Sink>(alloc: Global, sink: &mut K, cause: Cause) -> Cause
+    ensures { Ends cause (spec.refusal_line cause) (K.state sink.old) (K.state sink.new) result }
+{
+    let Ok(line) = refusal_line(alloc, cause) else {
+        return Cause::NoMemory;
+    };
+    match put_all(sink, line.as_bytes()) {
+        Ok(()) => cause,
+        Err(SinkFault::Failed) => Cause::WriteFault,
+        Err(SinkFault::NoMemory) => Cause::NoMemory,
     }
 }

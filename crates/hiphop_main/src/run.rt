@@ -1,13 +1,10 @@
 //! A program played on the lines of a scenario.
 
-ghost use Rattle.std.specs.Prelude.{◌≡◌, ◌+◌, ◌<◌, ◌≤◌, ◌^◌, ◌++◌, ℕ, length, map, IfOk, OnOk, OnErr, IsErrOf, List};
+ghost use Rattle.std.specs.Prelude.{◌≡◌, ◌+◌, ◌<◌, ◌≤◌, ◌^◌, ◌++◌, length, map, IfOk, IfErr, OnOk};
 ghost use Rattle.std.specs.List.{AllByRecursion};
-ghost use Rattle.std.specs.Io.KnownBytes.{Appends};
-ghost use Rattle.hh_io.specs.Bytes.{AppendsPrefix};
-ghost use Rattle.hh_io.specs.Faults.{Rises};
-ghost use Rattle.hh_base.specs.declared.value.Dir.TheVariants.{Input};
+ghost use Rattle.hh_io.specs.SinkState.{Puts, CutsOff};
 ghost use Rattle.hh_term.specs.Views.{control_in};
-ghost use Rattle.hh_term.specs.FirstLanguage.{HasDirection, IsFirstLanguage};
+ghost use Rattle.hh_term.specs.FirstLanguage.{IsFirstLanguage};
 ghost use Rattle.hh_term.specs.Marks.{IsControlOf};
 ghost use Rattle.hh_term.specs.ProgramView.{kernel_of};
 ghost use Rattle.reactor.specs.Core.{State, has_ended};
@@ -18,8 +15,8 @@ ghost use Rattle.hiphop_main.specs.Running.{Stands, Reacts, Advances, line_text,
 
 use hh_base::memory::NoMemory;
 use hh_base::value::Value;
-use hh_io::fault::PutEnd;
-use hh_io::sink::{Sink, put_all};
+use hh_io::fault::SinkFault;
+use hh_io::sink::{Sink, put_all, put_waiting};
 use hh_term::mark::Marked;
 use hh_term::program::Program;
 use reactor::reply::{Done, Outputs, Reply};
@@ -27,9 +24,6 @@ use scenario::line::Line;
 use scenario::print::print_reply;
 use std::alloc::Global;
 use sync_step::step;
-
-/// How much text waits at most before it is written.
-const PIECE: usize = 65536;
 
 /// The reply of an accepted reaction with these present outputs and this completion code.
 fn reply_of(alloc: Global, signals: &[u32], code: Option<u8>) -> Result<Reply, NoMemory>
@@ -87,22 +81,7 @@ fn react(
     })
 }
 
-/// Writes the text that waits, if there is much of it.
-fn put_much<K: Sink>(sink: &mut K, out: &mut Vec<u8>) -> Result<(), PutEnd>
-    ensures ok { OnOk result ((text : List ℕ) × Appends (K.written sink.old) (K.written sink.new) text × (out.old.items ≡ text ++ out.new.items)) }
-    ensures prefix { OnErr result (AppendsPrefix (K.written sink.old) (K.written sink.new) out.old.items) }
-    ensures quiet { OnOk result (K.faults sink.new ≡ K.faults sink.old) }
-    ensures quiet_memory { IsErrOf result PutEnd.NoMemory → K.faults sink.new ≡ K.faults sink.old }
-    ensures fault { IsErrOf result PutEnd.Fault → Rises (K.faults sink.old) (K.faults sink.new) }
-{
-    if out.len() >= PIECE {
-        put_all(sink, out)?;
-        out.clear();
-    }
-    Ok(())
-}
-
-/// Reacts to the inputs of a line, and writes the text that waits if there is much of it.
+/// Reacts to the inputs of a line, and writes the text that waits once there is much of it.
 fn go_on<K: Sink>(
     alloc: Global,
     program: &Program,
@@ -110,26 +89,24 @@ fn go_on<K: Sink>(
     inputs: &[u32],
     out: &mut Vec<u8>,
     sink: &mut K,
-) -> Result<Turn, PutEnd>
+) -> Result<Turn, SinkFault>
     requires first { IsFirstLanguage (kernel_of program.now) }
     requires rests { IsControlOf (kernel_of program.now).statement (control_in turn.now.marked) }
     requires inputs { AreGiven (kernel_of program.now) inputs.now }
     requires number { turn.now.number < 2 ^ 63 }
     ensures advances { IfOk result (λ t. (S : State) → Stands S (kernel_of program.now) (control_in turn.now.marked)
-        → Advances S (kernel_of program.now) turn.now.number inputs.now out.old.items out.new.items (K.written sink.old) (K.written sink.new) (control_in t.marked) t.number) }
+        → Advances S (kernel_of program.now) turn.now.number inputs.now out.old.items out.new.items
+        (K.state sink.old) (K.state sink.new) (control_in t.marked) t.number) }
     ensures rests { IfOk result (λ t. IsControlOf (kernel_of program.now).statement (control_in t.marked)) }
     ensures counts { IfOk result (λ t. t.number ≤ turn.now.number + 1) }
-    ensures prefix { OnErr result ((S : State) → Stands S (kernel_of program.now) (control_in turn.now.marked)
-        → AppendsPrefix (K.written sink.old) (K.written sink.new) (out.old.items ++ line_text S (kernel_of program.now) turn.now.number inputs.now)) }
-    ensures quiet { OnOk result (K.faults sink.new ≡ K.faults sink.old) }
-    ensures quiet_memory { IsErrOf result PutEnd.NoMemory → K.faults sink.new ≡ K.faults sink.old }
-    ensures fault { IsErrOf result PutEnd.Fault → Rises (K.faults sink.old) (K.faults sink.new) }
+    ensures cut_off { IfErr result (λ e. (S : State) → Stands S (kernel_of program.now) (control_in turn.now.marked)
+        → CutsOff (K.state sink.old) (K.state sink.new) (out.old.items ++ line_text S (kernel_of program.now) turn.now.number inputs.now) e) }
 {
     let next = match react(alloc, program, turn, inputs, out) {
         Ok(next) => next,
-        Err(NoMemory) => return Err(PutEnd::NoMemory),
+        Err(NoMemory) => return Err(SinkFault::NoMemory),
     };
-    put_much(sink, out)?;
+    put_waiting(sink, out)?;
     Ok(next)
 }
 
@@ -141,21 +118,19 @@ fn inputs_of(line: &Line) -> &[u32]
     }
 }
 
-/// Plays the program on the lines of a scenario, and writes its log.
+/// Plays the program on the lines of a scenario, and writes its log as it comes: between two lines less
+/// than `WAITING_LIMIT` bytes of it wait.
 pub fn play_lines<K: Sink>(
     alloc: Global,
     program: &Program,
     lines: &[Line],
     sink: &mut K,
-) -> Result<(), PutEnd>
+) -> Result<(), SinkFault>
     requires first { IsFirstLanguage (kernel_of program.now) }
     requires few { length lines.now < 2 ^ 62 }
     requires inputs { AllByRecursion (AreGiven (kernel_of program.now)) (map inputs_of_line lines.now) }
-    ensures written { OnOk result (Appends (K.written sink.old) (K.written sink.new) (lines_text (kernel_of program.now) (map inputs_of_line lines.now))) }
-    ensures prefix { OnErr result (AppendsPrefix (K.written sink.old) (K.written sink.new) (lines_text (kernel_of program.now) (map inputs_of_line lines.now))) }
-    ensures quiet { OnOk result (K.faults sink.new ≡ K.faults sink.old) }
-    ensures quiet_memory { IsErrOf result PutEnd.NoMemory → K.faults sink.new ≡ K.faults sink.old }
-    ensures fault { IsErrOf result PutEnd.Fault → Rises (K.faults sink.old) (K.faults sink.new) }
+    ensures written { OnOk result (Puts (K.state sink.old) (K.state sink.new) (lines_text (kernel_of program.now) (map inputs_of_line lines.now))) }
+    ensures cut_off { IfErr result (CutsOff (K.state sink.old) (K.state sink.new) (lines_text (kernel_of program.now) (map inputs_of_line lines.now))) }
 {
     let mut out = Vec::new(alloc);
     let mut turn = Turn {

@@ -6,8 +6,9 @@ ghost use Rattle.hh_term.specs.FirstLanguage.{IsFirstLanguage};
 ghost use Rattle.hh_term.specs.ProgramView.{kernel_of};
 ghost use Rattle.scenario.specs.Interface.{HasNames};
 ghost use Rattle.scenario.specs.Scenario.{inputs_of_line};
-ghost use Rattle.hiphop_main.specs.Play.{AreGiven, IsNotBuilt, IsOnlyInput, input_limit};
+ghost use Rattle.hiphop_main.specs.Play.{AreGiven, IsNotBuilt, IsOnlyInput};
 
+use crate::limits::INPUT_LIMIT;
 use crate::split::split;
 use first_language::{ReadRefusal, read_module};
 use hh_term::program::{Program, SignalDecl};
@@ -39,7 +40,7 @@ fn named_signals(program: &Program) -> &[SignalDecl]
 
 /// The script that the input spells.
 pub fn read_script(alloc: Global, input: &[u8]) -> Result<Script, ScriptFault>
-    requires { length input.now ≤ input_limit }
+    requires { length input.now ≤ INPUT_LIMIT }
     ensures found { IfOk result (λ s. IsOnlyInput input.now (kernel_of s.program) (map inputs_of_line s.lines.items)) }
     ensures not_built { IsErrOf result ScriptFault.NotBuilt → IsNotBuilt input.now }
     ensures first { IfOk result (λ s. IsFirstLanguage (kernel_of s.program)) }

@@ -1,1 +1,1 @@
-mod NeverFails
+mod Calls

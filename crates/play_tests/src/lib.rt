@@ -1,14 +1,17 @@
 //! `hiphop` over sources and sinks in memory: what cannot happen there, and tests of whole calls.
 #![tactic(auto)]
 
-ghost use Rattle.std.specs.Prelude.{◌≡◌, ◌≢◌};
-ghost use Rattle.hiphop_main.specs.Play.{IsLogText, IsPlay, IsUsageEnd};
-ghost use Rattle.hiphop_main.specs.Status.{status_of};
+ghost use Rattle.std.specs.Prelude.{◌≡◌, ◌≢◌, ◌≤◌, ◌⊎◌, ℕ, List, length};
+ghost use Rattle.hh_term.specs.Kernel.{Kernel};
+ghost use Rattle.hiphop_main.specs.declared.limits.TheConstants.{INPUT_LIMIT};
+ghost use Rattle.hiphop_main.specs.Obeys.{IsPlay};
+ghost use Rattle.hiphop_main.specs.Play.{IsInput, IsLogText};
+ghost use Rattle.play_tests.specs.InMemory.{ObeysInMemory};
 
 use hh_base::command_line::CommandLine;
 use hh_io::sure::{SureSink, SureSource};
 use hiphop_main::command::hiphop;
-use hiphop_main::ending::{Cause, Outcome};
+use hiphop_main::ending::Cause;
 use std::alloc::Global;
 
 #[cfg(test)]
@@ -21,24 +24,31 @@ mod tests;
 /// What a call answers, and what it wrote.
 #[derive(Drop)]
 pub struct InMemory {
-    pub outcome: Outcome,
+    pub cause: Cause,
     pub text: Vec<u8>,
 }
 
-/// A call of `hiphop` over an input and an output that never fail. It ends neither with a read fault nor
-/// with a write fault. Where it is fine, the text is the print of the one legal log of the input.
+/// A call of `hiphop` over an input and an output that never fail.
 pub fn hiphop_in_memory(alloc: Global, words: &CommandLine, input: Vec<u8>) -> InMemory
-    ensures status { result.outcome.status ≡ status_of result.outcome.cause }
-    ensures log { result.outcome.cause ≡ Cause.Fine → IsLogText input.items result.text.items }
-    ensures usage_due { ¬ IsPlay words.now → IsUsageEnd result.outcome.cause }
-    ensures no_read_fault { result.outcome.cause ≢ Cause.ReadFault }
-    ensures no_write_fault { result.outcome.cause ≢ Cause.WriteFault }
+    // The text is the one that is due, or a prefix of it where memory ran out.
+    ensures obeys { ObeysInMemory words.now input.items result.text.items result.cause }
+
+    // So the text of a call that is fine is the print of the one legal log of the input,
+    ensures log { result.cause ≡ Cause.Fine → IsLogText input.items result.text.items }
+
+    // a program with its scenario is played, unless memory runs out,
+    ensures complete { IsPlay words.now → length input.items ≤ INPUT_LIMIT → (K : Kernel) (lines : List (List ℕ))
+        → IsInput input.items K lines → (result.cause ≡ Cause.Fine) ⊎ (result.cause ≡ Cause.NoMemory) }
+
+    // and no read and no write fails.
+    ensures no_read_fault { result.cause ≢ Cause.ReadFault }
+    ensures no_write_fault { result.cause ≢ Cause.WriteFault }
 {
     let mut source = SureSource::new(input);
     let mut sink = SureSink::new(alloc);
-    let outcome = hiphop(alloc, words, &mut source, &mut sink);
+    let cause = hiphop(alloc, words, &mut source, &mut sink);
     InMemory {
-        outcome,
+        cause,
         text: sink.into_bytes(),
     }
 }

@@ -4,7 +4,7 @@ use crate::hiphop_in_memory;
 use hh_base::command_line::CommandLine;
 use hh_io::memory::{MemSink, MemSource};
 use hiphop_main::command::hiphop;
-use hiphop_main::ending::Outcome;
+use hiphop_main::ending::Cause;
 use std::alloc::Global;
 use std::process::Abort;
 use std::test::Fail;
@@ -16,7 +16,7 @@ const PAUSE: &str =
 /// fail at these calls.
 #[derive(Drop)]
 struct Played {
-    outcome: Outcome,
+    cause: Cause,
     text: Vec<u8>,
 }
 
@@ -37,9 +37,9 @@ fn call(
         most,
     );
     let mut sink = MemSink::in_steps(alloc, Vec::from_slice(alloc, write_fails)?, most);
-    let outcome = hiphop(alloc, &words, &mut source, &mut sink);
+    let cause = hiphop(alloc, &words, &mut source, &mut sink);
     Ok(Played {
-        outcome,
+        cause,
         text: sink.into_bytes(),
     })
 }
@@ -47,7 +47,7 @@ fn call(
 fn check(rt: &impl Abort, alloc: Global, input: &str, status: u8, text: &str) -> Result<(), Fail> {
     for most in [1, 7, 1_000_000] {
         let played = call(alloc, "play", input.as_bytes(), most, &[], &[])?;
-        assert_eq!(rt; played.outcome.status, status, "{input}");
+        assert_eq!(rt; played.cause.status(), status, "{input}");
         assert_eq!(rt; played.text.as_slice(), text.as_bytes(), "{input}");
     }
     Ok(())
@@ -96,7 +96,7 @@ fn plays_scenarios(rt: HostRuntime) -> Result<(), Fail> {
 fn tells_failed_reads(rt: HostRuntime) -> Result<(), Fail> {
     for at in 0..2 {
         let played = call(rt.alloc(), "play", PAUSE.as_bytes(), 1_000_000, &[at], &[])?;
-        assert_eq!(rt; played.outcome.status, 1);
+        assert_eq!(rt; played.cause.status(), 1);
         assert_eq!(rt; played.text.len(), 0);
     }
     Ok(())
@@ -113,7 +113,7 @@ fn tells_failed_writes(rt: HostRuntime) -> Result<(), Fail> {
             &[],
             &[u64::from(at)],
         )?;
-        assert_eq!(rt; played.outcome.status, 6);
+        assert_eq!(rt; played.cause.status(), 6);
         assert_eq!(rt; played.text.len(), usize::from(at));
     }
     Ok(())
@@ -127,7 +127,7 @@ fn tells_faults_at_the_first_call(rt: HostRuntime) -> Result<(), Fail> {
         ([].as_slice(), [0u64].as_slice(), 6),
     ] {
         let played = call(rt.alloc(), "play", input, 1_000_000, reads, writes)?;
-        assert_eq!(rt; played.outcome.status, status);
+        assert_eq!(rt; played.cause.status(), status);
         assert_eq!(rt; played.text.len(), 0);
     }
     Ok(())
@@ -142,7 +142,7 @@ fn refuses_what_is_too_long(rt: HostRuntime) -> Result<(), Fail> {
     ] {
         let input = vec![in rt.alloc(); byte; size]?;
         let played = call(rt.alloc(), "play", &input, 1_000_000, &[], &[])?;
-        assert_eq!(rt; played.outcome.status, status);
+        assert_eq!(rt; played.cause.status(), status);
     }
     Ok(())
 }
@@ -153,7 +153,7 @@ fn plays_in_memory(rt: HostRuntime) -> Result<(), Fail> {
     words.push(rt.alloc(), "play")?;
     let input = Vec::from_slice(rt.alloc(), PAUSE.as_bytes())?;
     let played = hiphop_in_memory(rt.alloc(), &words, input);
-    assert_eq!(rt; played.outcome.status, 0);
+    assert_eq!(rt; played.cause.status(), 0);
     assert_eq!(rt; played.text.as_slice(), b"1:\n2: O done\n3:\n".as_slice());
     Ok(())
 }
@@ -162,7 +162,7 @@ fn plays_in_memory(rt: HostRuntime) -> Result<(), Fail> {
 fn knows_its_words(rt: HostRuntime) -> Result<(), Fail> {
     for word in ["", "Play", "compile", "play "] {
         let played = call(rt.alloc(), word, PAUSE.as_bytes(), 9, &[0], &[])?;
-        assert_eq!(rt; played.outcome.status, 2);
+        assert_eq!(rt; played.cause.status(), 2);
         assert_eq!(rt;
             played.text.as_slice(),
             b"! usage: hiphop play, compile, play_net, serve [--workers N], gen --seed N --size N\n".as_slice()
@@ -244,7 +244,7 @@ fn plays_a_long_scenario(rt: HostRuntime) -> Result<(), Fail> {
         "",
     )?;
     let played = call(rt.alloc(), "play", input.as_bytes(), 1_000_000, &[], &[])?;
-    assert_eq!(rt; played.outcome.status, 0);
+    assert_eq!(rt; played.cause.status(), 0);
     assert_eq!(rt;
         played.text.len(),
         9 * 3 + 90 * 4 + 900 * 5 + 9_000 * 6 + 90_000 * 7 + 8 + 5

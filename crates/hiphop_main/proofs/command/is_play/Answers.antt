@@ -1,7 +1,7 @@
 use Rattle.std.proofs.Common.{◌≡◌, ◌∙◌, sym, refl, ap, arith}
 use Rattle.std.proofs.lemmas.Slice.Eq.{bytes_eq-Decides}
 use Rattle.hiphop_main.proofs.Plays.{one_word, first_word}
-use Rattle.hiphop_main.proofs.play.is_play.Goals as goal
+use Rattle.hiphop_main.proofs.command.is_play.Goals as goal
 
 pub returns-then-len-eq1 : goal.returns-then-len-eq1
 returns-then-len-eq1 c = (

@@ -1,0 +1,29 @@
+-- What a call of `hiphop` owes for its words: the promise of the program. Each command has its words, a line of `Obeys`, and a
+-- record of its own for what it does. (This project's own.)
+use Rattle.std.specs.Prelude.{◌≡◌, ℕ, List, [], ◌∷◌, codes}
+use Rattle.hiphop_main.specs.declared.ending.Cause.{Cause}
+use Rattle.hiphop_main.specs.declared.ending.Cause.TheVariants.{Usage}
+use Rattle.hiphop_main.specs.Ends.{Ends}
+use Rattle.hiphop_main.specs.Exchange.{Exchange}
+use Rattle.hiphop_main.specs.Play.{Plays}
+use Rattle.hiphop_main.specs.Status.{refusal_line}
+
+-- the words of `play`
+abbrev pub IsPlay : List (List ℕ) → Type 0
+IsPlay words = words ≡ codes "play" ∷ []
+
+-- the words of a command
+pub data IsCommand (words : List (List ℕ)) : Type 0 where
+  play : IsPlay words → IsCommand words
+
+-- the usage line is due, and nothing is read
+pub record SaysUsage (x : Exchange) (cause : Cause) : Type 0 where
+  pub line : Ends Usage (refusal_line Usage) x.sink_before x.sink_after cause
+  pub unread : x.source_after ≡ x.source_before
+
+-- a call does what its words ask for
+pub data Obeys (words : List (List ℕ)) (x : Exchange) (cause : Cause) : Type 0 where
+  -- `play` plays the module and the scenario of the source
+  plays : IsPlay words → Plays x cause → Obeys words x cause
+  -- words that are no command are answered by the usage line
+  says_usage : ¬ IsCommand words → SaysUsage x cause → Obeys words x cause
