@@ -4,3 +4,4 @@ pub mod Interface
 pub mod Print
 pub mod Reader
 pub mod Scenario
+pub mod Named

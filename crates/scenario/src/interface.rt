@@ -10,12 +10,27 @@ use hh_base::value::{Dir, NoMemory};
 use hh_term::program::SignalDecl;
 use std::alloc::Global;
 use std::collections::HashMap;
+use std::marker::Model;
 
-/// Declarations, and the number of each signal of the interface by its name.
+/// The signals of an interface, found by name. Contracts see the declarations, whose interface has words for
+/// names, no two the same.
 #[derive(Drop)]
 pub struct NameIndex<'a> {
-    pub signals: &'a [SignalDecl],
-    pub numbers: HashMap<&'a [u8], u32>,
+    signals: &'a [SignalDecl],
+    numbers: HashMap<&'a [u8], u32>,
+}
+
+impl<'a> Model for NameIndex<'a> {
+    ghost use Rattle.std.specs.Prelude.{List};
+    ghost use Rattle.hh_term.specs.declared.program.SignalDecl.{SignalDecl as ADeclaration};
+
+    ghost Value = { List ADeclaration };
+
+    ghost use Rattle.scenario.specs.Named.{signals_of, IsIndexed};
+
+    ghost view = { signals_of };
+
+    ghost invariant = { IsIndexed };
 }
 
 fn is_input(dir: Dir) -> bool
@@ -59,10 +74,10 @@ fn number_names(alloc: Global, signals: &[SignalDecl]) -> Result<HashMap<&[u8], 
 }
 
 impl<'a> NameIndex<'a> {
+    /// The index of declarations whose interface has names, no two the same.
     pub fn new(alloc: Global, signals: &'a [SignalDecl]) -> Result<NameIndex<'a>, NoMemory>
         requires { HasNames signals.now }
-        ensures signals { IfOk result (λ i. i.signals.now ≡ signals.now) }
-        ensures index { IfOk result (λ i. IsIndex signals.now i.numbers) }
+        ensures signals { IfOk result (λ i. i ≡ signals.now) }
         ensures words { OnOk result (HasWords signals.now) }
     {
         Ok(NameIndex {
@@ -73,10 +88,9 @@ impl<'a> NameIndex<'a> {
 
     /// The input of this name.
     pub fn find_input(&self, name: &[u8]) -> Option<u32>
-        requires indexed { IsIndex self.now.signals.now self.now.numbers }
-        requires names { HasWords self.now.signals.now }
-        ensures { MatchOption result (LacksInput self.now.signals.now name.now)
-            (λ s. (is_input_at self.now.signals.now s ≡ true) × (name_at self.now.signals.now s ≡ name.now)) }
+        ensures input { MatchOption result (LacksInput self.now name.now)
+            (λ s. (is_input_at self.now s ≡ true) × (name_at self.now s ≡ name.now)) }
+        ensures words { HasWords self.now }
     {
         let number = *self.numbers.get(name)?;
         let signal = &self.signals[number as usize];

@@ -1,7 +1,6 @@
 //! The reader of scenarios.
 ghost use Rattle.std.specs.Prelude.{◌≡◌, ◌+◌, ◌<◌, ◌≤◌, ◌^◌, ◌⊎◌, ℕ, true, List, All, length, map, IfOk, OnOk, IfErr};
 ghost use Rattle.scenario.specs.Cut.{StartsWith};
-ghost use Rattle.scenario.specs.Index.{IsIndex};
 ghost use Rattle.scenario.specs.Interface.{HasNames, HasWords};
 ghost use Rattle.scenario.specs.Reader.{LacksNames, TakesName};
 ghost use Rattle.scenario.specs.Scenario.{AreInputs, IsFirstLine, IsFirstRefused, IsNoLine, IsRead, IsScenario, inputs_of_line, spaced_names, spelling};
@@ -26,10 +25,9 @@ fn split_line(text: &[u8]) -> (&[u8], &[u8])
 /// The input of this name, unless the line named it before. `noted` has for each signal the number of
 /// the last line that named it.
 fn take_name(index: &NameIndex, name: &[u8], number: u64, noted: &mut [u64]) -> Option<u32>
-    requires indexed { IsIndex index.now.signals.now index.now.numbers }
-    requires names { HasWords index.now.signals.now }
-    requires noted_each { length noted.old ≡ length index.now.signals.now }
-    ensures { TakesName index.now.signals.now name.now number noted.old result noted.new }
+    requires { length noted.old ≡ length index.now }
+    ensures taken { TakesName index.now name.now number noted.old result noted.new }
+    ensures words { HasWords index.now }
 {
     let input = index.find_input(name)?;
     if noted[input as usize] == number {
@@ -47,15 +45,13 @@ fn read_names(
     index: &NameIndex,
     noted: &mut [u64],
 ) -> Result<Signals, ScenarioFault>
-    requires indexed { IsIndex index.now.signals.now index.now.numbers }
-    requires names { HasWords index.now.signals.now }
-    requires noted_each { length noted.old ≡ length index.now.signals.now }
+    requires noted_each { length noted.old ≡ length index.now }
     requires noted_before { All (λ n. n < number) noted.old }
     requires spaced { StartsWith 32 names.now }
-    ensures inputs { IfOk result (AreInputs index.now.signals.now) }
-    ensures spelled { IfOk result (λ is. names.now ≡ spaced_names index.now.signals.now is) }
+    ensures inputs { IfOk result (AreInputs index.now) }
+    ensures spelled { IfOk result (λ is. names.now ≡ spaced_names index.now is) }
     ensures noted { OnOk result (All (λ n. n ≤ number) noted.new) }
-    ensures refused { IfErr result (λ e. (e ≡ ScenarioFault.NoMemory) ⊎ ((e ≡ ScenarioFault.Refused number) × LacksNames index.now.signals.now names.now)) }
+    ensures refused { IfErr result (λ e. (e ≡ ScenarioFault.NoMemory) ⊎ ((e ≡ ScenarioFault.Refused number) × LacksNames index.now names.now)) }
 {
     let mut inputs = Vec::new(alloc);
     let mut rest = names;
@@ -78,14 +74,12 @@ fn read_line(
     index: &NameIndex,
     noted: &mut [u64],
 ) -> Result<Signals, ScenarioFault>
-    requires indexed { IsIndex index.now.signals.now index.now.numbers }
-    requires names { HasWords index.now.signals.now }
-    requires noted_each { length noted.old ≡ length index.now.signals.now }
+    requires noted_each { length noted.old ≡ length index.now }
     requires noted_before { All (λ n. n < number) noted.old }
-    ensures inputs { IfOk result (AreInputs index.now.signals.now) }
-    ensures spelled { IfOk result (λ is. line.now ≡ spelling index.now.signals.now is) }
+    ensures inputs { IfOk result (AreInputs index.now) }
+    ensures spelled { IfOk result (λ is. line.now ≡ spelling index.now is) }
     ensures noted { OnOk result (All (λ n. n ≤ number) noted.new) }
-    ensures refused { IfErr result (λ e. (e ≡ ScenarioFault.NoMemory) ⊎ ((e ≡ ScenarioFault.Refused number) × IsNoLine index.now.signals.now line.now)) }
+    ensures refused { IfErr result (λ e. (e ≡ ScenarioFault.NoMemory) ⊎ ((e ≡ ScenarioFault.Refused number) × IsNoLine index.now line.now)) }
 {
     let (word, names) = cut(line, b' ');
     if word != b"react".as_slice() {

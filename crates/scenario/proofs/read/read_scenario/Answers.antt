@@ -11,7 +11,7 @@ returns-in_err-inputs-clause-only c = λ reactions reading.
     let signals = c.args.signals.now in
     let far = c.lines in
     let some : far.rest.now ≢ [] = something_left far.rest.now c.lines-test.ensures in
-    let why = fault_at_line c.in_ok-index.index.signals.now signals c.args.text.now (map inputs_of_line far.lines.items) far.number far.rest.now far.noted c.split_line.result.0.now c.split_line.result.1.now c.in_err-inputs.field-0.0 c.in_ok-index.ensures.signals some c.split_line.ensures far.invariant c.in_err-inputs.ensures.refused in
+    let why = fault_at_line c.in_ok-index.index signals c.args.text.now (map inputs_of_line far.lines.items) far.number far.rest.now far.noted c.split_line.result.0.now c.split_line.result.1.now c.in_err-inputs.field-0.0 c.in_ok-index.ensures.signals some c.split_line.ensures far.invariant c.in_err-inputs.ensures.refused in
     let p = err_from_is_err_and c.from_residual-in_err-inputs.result c.from_residual-in_err-inputs.ensures.1 in
     rw p.1 (p.2 ∙ is_read_fault signals c.args.text.now reactions (far.number + 1) c.in_err-inputs.field-0.0 c.in_ok-index.ensures.words reading why)
 
