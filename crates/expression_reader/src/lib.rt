@@ -6,6 +6,4 @@ mod expressions;
 pub mod fault;
 mod operator;
 pub mod terminal;
-#[cfg(test)]
-mod tests;
 mod tokens_left;

@@ -10,6 +10,3 @@ mod tree;
 
 pub use build::read_module;
 pub use refusal::ReadRefusal;
-
-#[cfg(test)]
-mod tests;

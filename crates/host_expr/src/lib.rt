@@ -8,5 +8,3 @@ pub mod eval;
 pub mod expr;
 pub mod laws;
 mod part;
-#[cfg(test)]
-mod tests;

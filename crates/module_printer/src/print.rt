@@ -9,8 +9,6 @@ mod declarations;
 mod expressions;
 mod printer;
 mod statements;
-#[cfg(test)]
-mod tests;
 
 use crate::print::printer::{Printable, Printer};
 use hh_base::memory::NoMemory;

@@ -8,5 +8,3 @@ mod lists;
 mod parts;
 pub mod read;
 mod statements;
-#[cfg(test)]
-mod tests;

@@ -8,8 +8,6 @@ mod number;
 pub mod punct;
 mod quoted;
 mod sign;
-#[cfg(test)]
-mod tests;
 pub mod token;
 pub mod tokens;
 mod word;

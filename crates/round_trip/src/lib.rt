@@ -6,9 +6,6 @@ ghost use Rattle.module_printer.specs.Printed.{printed};
 ghost use Rattle.round_trip.specs.Places.{SameButPlaces};
 ghost use Rattle.round_trip.specs.Trips.{EachSourceTreeHasAText, EachTreeOfATextIsSource};
 
-#[cfg(test)]
-mod tests;
-
 use module_printer::print::print;
 use module_reader::fault::ReadFault;
 use module_reader::read::read;

@@ -6,5 +6,3 @@ mod interface;
 pub mod line;
 pub mod print;
 pub mod read;
-#[cfg(test)]
-mod tests;

@@ -4,5 +4,3 @@
 pub mod bag;
 pub mod combination;
 pub mod laws;
-#[cfg(test)]
-mod tests;

@@ -6,6 +6,3 @@ mod reaction;
 mod walk;
 
 pub use reaction::{Stepped, step};
-
-#[cfg(test)]
-mod tests;

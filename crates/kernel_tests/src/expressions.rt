@@ -1,12 +1,12 @@
 //! Expressions on the edges of their operators: tables of operands, an operator and what it gives.
 
-use crate::cell::{Cell, Cells, Scope, SigCell};
-use crate::check::{TypeFault, check};
-use crate::eval::eval;
-use crate::expr::{Expr, ExprNode, Op, Rel, copy_expr, same_expr};
 use hh_base::memory::NoMemory;
 use hh_base::text::Text;
 use hh_base::value::{FaultKind, Kind, Pos, Tri, Value};
+use host_expr::cell::{Cell, Cells, Scope, SigCell};
+use host_expr::check::{TypeFault, check};
+use host_expr::eval::eval;
+use host_expr::expr::{Expr, ExprNode, Op, Rel, copy_expr, same_expr};
 use sqlite_items::Boxed;
 use std::alloc::Global;
 use std::test::Fail;

@@ -1,6 +1,6 @@
 //! Texts that are read, and texts that are not.
 
-use crate::{ReadRefusal, read_module};
+use first_language::{ReadRefusal, read_module};
 use hh_term::term::TermNode;
 use std::alloc::{AllocError, Global};
 

@@ -6,9 +6,9 @@ ghost use Rattle.module_tree.specs.SourceForms.{fits_block, fits_interface};
 ghost use Rattle.module_tree.specs.SourceNesting.{nesting_of_block};
 ghost use Rattle.module_tree.specs.Source.{is_source};
 
-use super::print;
 use hh_base::name::Name;
 use hh_base::value::{Dir, Kind, Pos};
+use module_printer::print::print;
 use module_tree::source::{
     BlockNode, InterfaceNode, ModuleNode, Modules, NameAt, Part, SignalNode, Statement,
     StatementNode,

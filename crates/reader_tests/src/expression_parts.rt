@@ -1,8 +1,8 @@
 //! Parts that are read, and parts that are refused.
 
-use crate::cursor::Reader;
-use crate::fault::StepError;
-use crate::terminal::Terminal;
+use expression_reader::cursor::Reader;
+use expression_reader::fault::StepError;
+use expression_reader::terminal::Terminal;
 use hh_base::keyword::Keyword;
 use hh_base::value::Pos;
 use host_expr::expr::{ExprNode, Op};

@@ -3,7 +3,7 @@
 mod limits;
 mod refusals;
 
-use crate::read::read;
+use module_reader::read::read;
 use std::alloc::{AllocError, Global};
 
 fn is_read(alloc: Global, text: &str) -> bool {

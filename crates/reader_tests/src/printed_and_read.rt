@@ -3,10 +3,10 @@
 ghost use Rattle.std.specs.Prelude.{◌≡◌};
 ghost use Rattle.module_printer.specs.Printed.{printed};
 
-use crate::read_back;
 use module_printer::print::print;
 use module_reader::read::read;
 use module_tree::source::Modules;
+use round_trip::read_back;
 use std::alloc::Global;
 use std::test::Fail;
 

@@ -6,10 +6,10 @@ ghost use Rattle.hh_base.specs.Value.{kind_of};
 ghost use Rattle.hh_term.specs.Fits.{WordFits};
 ghost use Rattle.signal_bank.specs.BagKind.{kind_of_bag, AreOfKind, AreOfOneKind};
 
-use crate::bag::Bag;
-use crate::combination::{Combined, combine};
 use hh_base::literal::{print_literal, read_literal};
 use hh_base::value::{CombineWord, Kind, Value};
+use signal_bank::bag::Bag;
+use signal_bank::combination::{Combined, combine};
 use std::alloc::Global;
 use std::test::Fail;
 

@@ -1,10 +1,10 @@
 //! Texts with their tokens, and texts with their first fault.
 
-use crate::fault::{TokenFaultKind, TokensError};
-use crate::punct::Punct;
-use crate::token::{Token, TokenKind};
-use crate::tokens::{token_text, tokens, unquote};
 use hh_base::keyword::Keyword;
+use module_token::fault::{TokenFaultKind, TokensError};
+use module_token::punct::Punct;
+use module_token::token::{Token, TokenKind};
+use module_token::tokens::{token_text, tokens, unquote};
 use std::alloc::Global;
 use std::test::Fail;
 

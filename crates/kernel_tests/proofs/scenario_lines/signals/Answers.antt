@@ -2,7 +2,7 @@ use Rattle.std.proofs.Common.{◌≡◌, ◌≢◌, ◌<◌, ◌∷◌, ◌++◌
 use Rattle.std.specs.Prelude.{codes}
 use Rattle.hh_term.specs.declared.program.SignalDecl.{SignalDecl}
 use Rattle.scenario.proofs.Programs.{three_names}
-use Rattle.scenario.proofs.tests.signals.Goals as goal
+use Rattle.kernel_tests.proofs.scenario_lines.signals.Goals as goal
 
 apart_at : (xs ys : List ℕ) → get_or xs 0 0 < get_or ys 0 0 → xs ≢ ys
 apart_at xs ys less = λ e. let same : get_or xs 0 0 ≡ get_or ys 0 0 = ap (λ zs. get_or zs 0 0) e in omega arith

@@ -1,14 +1,14 @@
 ghost use Rattle.std.specs.Prelude.{◌≡◌, IfOk};
 ghost use Rattle.scenario.specs.Interface.{HasNames};
 
-use crate::line::{Line, ScenarioFault};
-use crate::print::print_reply;
-use crate::read::read_scenario;
 use hh_base::name::Name;
 use hh_base::text::Text;
 use hh_base::value::{Dir, FaultKind, Kind, Pos, Value};
 use hh_term::program::SignalDecl;
 use reactor::reply::{Done, Names, Outputs, Reply};
+use scenario::line::{Line, ScenarioFault};
+use scenario::print::print_reply;
+use scenario::read::read_scenario;
 use std::alloc::Global;
 use std::process::Abort;
 use std::test::Fail;
