@@ -2,4 +2,5 @@ pub mod Members
 pub mod Components
 pub mod WorkLemmas
 pub mod SearchRuns
+pub mod CallersLemmas
 pub mod SearchSteps

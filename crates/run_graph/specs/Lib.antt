@@ -1,4 +1,5 @@
 pub mod Reach
 pub mod Search
 pub mod Components
+pub mod Callers
 pub mod Work

@@ -1,4 +1,5 @@
 //! The graph of runs of a module text: which runs lie on a cycle, and an order in which callees come first.
 #![tactic(auto)]
 
+pub mod callers;
 pub mod search;
