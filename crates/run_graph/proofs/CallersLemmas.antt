@@ -22,7 +22,7 @@ callees_set_other (r ∷ rs) zero (suc n) ms d = refl
 callees_set_other (r ∷ rs) (suc m) zero ms d = refl
 callees_set_other (r ∷ rs) (suc m) (suc n) ms d = callees_set_other rs m n ms (λ e. d (ap suc e))
 
-among_push : (xs : List ℕ) (y m : ℕ) → is_among (xs ++ y ∷ []) m ≡ (is_among xs m || (y == m))
+pub among_push : (xs : List ℕ) (y m : ℕ) → is_among (xs ++ y ∷ []) m ≡ (is_among xs m || (y == m))
 among_push xs y m = list_any-append (λ (n : ℕ). n == m) xs (y ∷ []) ∙ ap (λ b. is_among xs m || b) (or_no (y == m))
   where
     or_no : (b : Bool) → (b || false) ≡ b

@@ -8,7 +8,7 @@ use Rattle.module_tree.specs.Runs.{is_among, or_none}
 use Rattle.run_graph.specs.Reach.{callees, Runs, Reaches, itself, by_run, InRange}
 use Rattle.run_graph.specs.Search.{IsFinishOrder, IsPath, IsSearch, AreFollowed, met, modules, opening}
 use Rattle.run_graph.proofs.Members.{among_cases, among_head, among_tail, not_among_tail, not_among_cons, not_eq}
-use Rattle.run_graph.proofs.Components.{reaches_on}
+use Rattle.run_graph.proofs.ComponentLemmas.{reaches_on}
 
 -- ---- what is met stays met
 

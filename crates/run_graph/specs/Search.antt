@@ -51,3 +51,6 @@ StaySeen old new = (m : ℕ) → slice_get old m ≡ Some true → slice_get new
 
 abbrev pub HasAll : List (List ℕ) → List ℕ → Type 0
 HasAll runs ms = (m : ℕ) → m < length runs → is_among ms m ≡ true
+
+abbrev pub AreThere : List (List ℕ) → List ℕ → Type 0
+AreThere runs ms = (m : ℕ) → is_among ms m ≡ true → m < length runs

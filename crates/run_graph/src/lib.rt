@@ -2,4 +2,6 @@
 #![tactic(auto)]
 
 pub mod callers;
+pub mod components;
+pub mod flood;
 pub mod search;

@@ -2,7 +2,7 @@
 
 ghost use Rattle.std.specs.Prelude.{◌≡◌, ℕ, ◌+◌, ◌<◌, ◌≤◌, ◌^◌, [], ◌∷◌, ◌++◌, true, false, length, reverse, IfOk, OnOk, OnSome, slice_get, slice_set};
 ghost use Rattle.run_graph.specs.Reach.{InRange, callees};
-ghost use Rattle.run_graph.specs.Search.{IsSearch, StaySeen, IsFinishOrder, HasAll, opening};
+ghost use Rattle.run_graph.specs.Search.{IsSearch, StaySeen, IsFinishOrder, HasAll, AreThere, opening};
 ghost use Rattle.run_graph.specs.Work.{work_left};
 
 use hh_base::memory::NoMemory;
@@ -98,6 +98,7 @@ pub fn finish_order(alloc: Global, runs: &[Items<u32>]) -> Result<Items<u32>, No
     requires in_range { InRange runs.now }
     ensures order { IfOk result (λ finished. IsFinishOrder runs.now (reverse finished)) }
     ensures all { IfOk result (λ finished. HasAll runs.now (reverse finished)) }
+    ensures within { IfOk result (λ finished. AreThere runs.now (reverse finished)) }
 {
     let mut search = Search {
         seen: vec![in alloc; false; runs.len()]?,
