@@ -6,7 +6,7 @@ use Rattle.module_tree.specs.Runs.{is_among}
 use Rattle.run_graph.specs.Reach.{Runs, Reaches, itself, by_run}
 use Rattle.run_graph.specs.Search.{IsFinishOrder}
 use Rattle.run_graph.specs.Components.{IsFirstReached}
-use Rattle.run_graph.proofs.Members.{among_cases, among_head, among_tail, not_among_tail}
+use Rattle.run_graph.proofs.Members.{among_cases, not_among_tail}
 
 pub reaches_on : (runs : List (List ℕ)) (a b c : ℕ) → Reaches runs a b → Reaches runs b c → Reaches runs a c
 reaches_on runs a b c (itself m) q = q
@@ -28,21 +28,25 @@ up_to_caller : (runs : List (List ℕ)) (r x y : ℕ) (ws : List ℕ) → IsFini
 up_to_caller runs r x y [] o e p n a = absurd (both_ways false refl a)
 up_to_caller runs r x y (z ∷ zs) (apart, to, o) e p n a =
     let reaches_z : Reaches runs r z = elim (to x y a e) [
-        inl among ↦ absurd (both_ways (is_among zs y) (not_among_tail z zs y n) among)
-      | inr q ↦ reaches_on runs r y z p q ] in
+      | inl among ↦ absurd (both_ways (is_among zs y) (not_among_tail z zs y n) among)
+      | inr q ↦ reaches_on runs r y z p q
+    ] in
     elim (among_cases z zs x a) [
-        inl here ↦ (reaches_z, inl here)
-      | inr later ↦ (reaches_z, inr (up_to_caller runs r x y zs o e p (not_among_tail z zs y n) later)) ]
+      | inl here ↦ (reaches_z, inl here)
+      | inr later ↦ (reaches_z, inr (up_to_caller runs r x y zs o e p (not_among_tail z zs y n) later))
+    ]
 
 caller_up_to : (runs : List (List ℕ)) (r x y : ℕ) (ws : List ℕ) → IsFinishOrder runs ws → Runs runs x y
     → ReachesUpTo runs r y ws → is_among ws x ≡ true → ReachesUpTo runs r x ws
 caller_up_to runs r x y [] o e u a = absurd u
 caller_up_to runs r x y (w ∷ ws) (apart, to, o) e (p, more) a =
     elim (among_cases w ws x a) [
-        inl here ↦ (p, inl here)
+      | inl here ↦ (p, inl here)
       | inr later ↦ elim more [
-            inl is ↦ (p, inr (up_to_caller runs r x y ws o e (subst (λ (n : ℕ). Reaches runs r n) is p) (subst (λ (n : ℕ). is_among ws n ≡ false) is apart) later))
-          | inr u ↦ (p, inr (caller_up_to runs r x y ws o e u later)) ] ]
+        | inl is ↦ (p, inr (up_to_caller runs r x y ws o e (subst (λ (n : ℕ). Reaches runs r n) is p) (subst (λ (n : ℕ). is_among ws n ≡ false) is apart) later))
+        | inr u ↦ (p, inr (caller_up_to runs r x y ws o e u later))
+      ]
+    ]
 
 up_to_all : (runs : List (List ℕ)) (w : ℕ) (ws : List ℕ) (x r : ℕ) → IsFinishOrder runs (w ∷ ws) → Reaches runs x r → r ≡ w
     → ((z : ℕ) → Reaches runs x z → is_among (w ∷ ws) z ≡ true) → ReachesUpTo runs r x (w ∷ ws)

@@ -1,6 +1,6 @@
 -- Membership in a list of modules.
-use Rattle.std.proofs.Common.{◌≡◌, ℕ, ◌==◌, ◌||◌, ◌⊎◌, Bool, true, false, List, [], ◌∷◌, ◌++◌, refl, sym, inl, inr}
-use Rattle.std.proofs.lemmas.Bool.{or_cases, or_left, or_right, or_parts, or_from, eqb-true, eq-eqb, ne_eqb, both_ways, false_from_ne_true}
+use Rattle.std.proofs.Common.{◌≡◌, ℕ, ◌==◌, ◌⊎◌, true, false, List, ◌∷◌, refl, sym, inl, inr}
+use Rattle.std.proofs.lemmas.Bool.{or_cases, or_left, or_right, or_parts, or_from, eqb-true, eq-eqb, ne_eqb}
 use Rattle.module_tree.specs.Runs.{is_among}
 
 pub among_cases : (w : ℕ) (ws : List ℕ) (m : ℕ) → is_among (w ∷ ws) m ≡ true → (w ≡ m) ⊎ (is_among ws m ≡ true)

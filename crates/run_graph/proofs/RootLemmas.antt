@@ -1,12 +1,12 @@
 -- How roots are given along an order of finishing, and what they then show.
-use Rattle.std.proofs.Common.{◌≡◌, ℕ, zero, suc, ◌<◌, ◌≤◌, ◌+◌, ◌-◌, ◌==◌, ◌||◌, ◌&&◌, ◌⊎◌, ◌↔◌, Bool, true, false, Option, Some, None, is_some, List, [], ◌∷◌, ◌++◌, length, take, drop, get_or, slice_get, replicate, reverse, refl, sym, ◌∙◌, ap, subst, inl, inr, arith}
+use Rattle.std.proofs.Common.{◌≡◌, ℕ, zero, suc, ◌<◌, ◌+◌, true, false, Option, Some, None, is_some, List, [], ◌∷◌, ◌++◌, length, take, drop, get_or, replicate, reverse, refl, sym, ◌∙◌, ap, subst, inl, inr, arith}
 use Rattle.std.specs.List.{list_all, range_with_len}
 use Rattle.std.proofs.lemmas.Bool.{both_ways, and_from, and_parts, cases_lt}
-use Rattle.std.proofs.lemmas.List.{take_more, drop_more, take-append-drop, take_all, reverse-append, reverse-reverse, append_assoc, append-nil}
+use Rattle.std.proofs.lemmas.List.{take_more, drop_more, take-append-drop, reverse-append, reverse-reverse, append_assoc, append-nil}
 use Rattle.std.proofs.lemmas.Option.{slice_get_past}
 use Rattle.module_tree.specs.Runs.{is_among, or_none, is_callees_first, stand_behind_callees}
 use Rattle.run_graph.specs.Reach.{callees, Runs, Reaches, itself, by_run, InRange}
-use Rattle.run_graph.specs.Search.{IsFinishOrder, HasAll, AreThere}
+use Rattle.run_graph.specs.Search.{IsFinishOrder, HasAll}
 use Rattle.run_graph.specs.Callers.{AreCallers}
 use Rattle.run_graph.specs.Flood.{root_of, HasRoot, AreClosed, Floods}
 use Rattle.run_graph.specs.Components.{IsFirstReached, IsRooting, ShowCycles, HasNoCycle}
@@ -25,8 +25,9 @@ rootless_has_none roots m e h = both_ways (is_some (root_of roots m)) (ap is_som
 -- the callers, turned round
 pub callers_in_range : (runs callers : List (List ℕ)) → AreCallers runs callers → length callers ≡ length runs → InRange callers
 callers_in_range runs callers a l m n r = elim (cases_lt n (length runs)) [
-    inl lt ↦ subst (λ (k : ℕ). n < k) (sym l) lt
-  | inr past ↦ absurd (both_ways (is_among (callees runs n) m) (ap (λ o. is_among (or_none o) m) (slice_get_past runs n past)) (sym (a n m) ∙ r)) ]
+  | inl lt ↦ subst (λ (k : ℕ). n < k) (sym l) lt
+  | inr past ↦ absurd (both_ways (is_among (callees runs n) m) (ap (λ o. is_among (or_none o) m) (slice_get_past runs n past)) (sym (a n m) ∙ r))
+]
 
 turned : (runs callers : List (List ℕ)) (m n : ℕ) → AreCallers runs callers → Reaches callers m n → Reaches runs n m
 turned runs callers m n a (itself k) = itself k
@@ -46,10 +47,11 @@ first_behind runs v r (d ∷ ds) rest not p = inr (not d (among_head d ds), firs
 
 pub rooting_begins : (runs callers : List (List ℕ)) (order : List ℕ) (roots : List (Option ℕ)) → roots ≡ replicate (length runs) None → length roots ≡ length runs → IsRooting runs callers order [] roots
 rooting_begins runs callers order roots is size = record {
-    size = size;
-    first = λ m r e. absurd (clash (root_of roots m) r (ap (λ rs. root_of rs m) is ∙ no_roots (length runs) m) e);
-    closed = λ m n h r. absurd (rootless_has_none roots m (ap (λ rs. root_of rs m) is ∙ no_roots (length runs) m) h);
-    rooted = λ m a. absurd (both_ways false refl a) }
+  size = size;
+  first = λ m r e. absurd (clash (root_of roots m) r (ap (λ rs. root_of rs m) is ∙ no_roots (length runs) m) e);
+  closed = λ m n h r. absurd (rootless_has_none roots m (ap (λ rs. root_of rs m) is ∙ no_roots (length runs) m) h);
+  rooted = λ m a. absurd (both_ways false refl a);
+}
   where
     clash : (o : Option ℕ) (r : ℕ) → o ≡ None → o ≡ Some r → ⊥
     clash o r a b = cc
@@ -58,25 +60,29 @@ pub rooting_goes_on : (runs callers : List (List ℕ)) (order : List ℕ) (k : �
     → IsRooting runs callers order (take k order) old → k < length order → Floods callers (get_or order k 0) old new
     → IsRooting runs callers order (take (k + 1) order) new
 rooting_goes_on runs callers order k old new a i l f = record {
-    size = f.size ∙ i.size;
-    first = λ m r e. elim (f.given m r e) [
-        inl b ↦ i.first m r b
-      | inr b ↦ subst (λ (j : ℕ). IsFirstReached runs m j order) (sym b.0) (subst (λ (xs : List ℕ). IsFirstReached runs m (get_or order k 0) xs) parted
-            (first_behind runs m (get_or order k 0) (take k order) (drop (k + 1) order)
-                (λ d among p. rootless_has_none old m b.1 (closed_on callers old d m i.closed (turned_back runs callers m d a p) (i.rooted d among)))
-                (turned runs callers (get_or order k 0) m a b.2))) ];
-    closed = f.closed;
-    rooted = λ m among. elim (push_cases (take k order) (get_or order k 0) m (ap (λ xs. is_among xs m) (sym (take_more order k 0 l)) ∙ among)) [
-        inl b ↦ kept_has old new f.kept m (i.rooted m b)
-      | inr is ↦ subst (λ (j : ℕ). HasRoot new j) is f.rooted ] }
+  size = f.size ∙ i.size;
+  first = λ m r e. elim (f.given m r e) [
+    | inl b ↦ i.first m r b
+    | inr b ↦ subst (λ (j : ℕ). IsFirstReached runs m j order) (sym b.0) (subst (λ (xs : List ℕ). IsFirstReached runs m (get_or order k 0) xs) parted
+        (first_behind runs m (get_or order k 0) (take k order) (drop (k + 1) order)
+        (λ d among p. rootless_has_none old m b.1 (closed_on callers old d m i.closed (turned_back runs callers m d a p) (i.rooted d among)))
+        (turned runs callers (get_or order k 0) m a b.2)))
+  ];
+  closed = f.closed;
+  rooted = λ m among. elim (push_cases (take k order) (get_or order k 0) m (ap (λ xs. is_among xs m) (sym (take_more order k 0 l)) ∙ among)) [
+    | inl b ↦ kept_has old new f.kept m (i.rooted m b)
+    | inr is ↦ subst (λ (j : ℕ). HasRoot new j) is f.rooted
+  ];
+}
   where
     parted : (take k order ++ get_or order k 0 ∷ drop (k + 1) order) ≡ order
     parted = ap (λ xs. take k order ++ xs) (sym (drop_more order k 0 l)) ∙ take-append-drop k order
 
 caller_there : (runs : List (List ℕ)) (m n : ℕ) → Runs runs m n → m < length runs
 caller_there runs m n r = elim (cases_lt m (length runs)) [
-    inl lt ↦ lt
-  | inr past ↦ absurd (both_ways (is_among (callees runs m) n) (ap (λ o. is_among (or_none o) n) (slice_get_past runs m past)) r) ]
+  | inl lt ↦ lt
+  | inr past ↦ absurd (both_ways (is_among (callees runs m) n) (ap (λ o. is_among (or_none o) n) (slice_get_past runs m past)) r)
+]
 
 reached_there : (runs : List (List ℕ)) (m n : ℕ) → InRange runs → Reaches runs m n → m < length runs → n < length runs
 reached_there runs m n i (itself k) l = l
@@ -88,16 +94,21 @@ roots_show runs callers order roots i o all s m n r = record { 0 = to; 1 = from 
   where
     m_there : m < length runs
     m_there = caller_there runs m n r
+
     root_m : (q : ℕ) × (root_of roots m ≡ Some q)
     root_m = root_there roots m (s.rooted m (all m m_there))
+
     root_n : (q : ℕ) × (root_of roots n ≡ Some q)
     root_n = root_there roots n (s.rooted n (all n (i m n r)))
+
     same_some : (a b : ℕ) → Some a ≡ Some b → a ≡ b
     same_some a b e = cc
+
     to : root_of roots m ≡ root_of roots n → Reaches runs n m
     to e = reaches_on runs n root_n.0 m (first_is_reached runs order n root_n.0 (s.first n root_n.0 root_n.1))
         (subst (λ (q : ℕ). Reaches runs q m) (same_some root_m.0 root_n.0 (sym root_m.1 ∙ e ∙ root_n.1))
         (first_reaches_back runs order m root_m.0 o (λ z p. all z (reached_there runs m z i p m_there)) (s.first m root_m.0 root_m.1)))
+
     from : Reaches runs n m → root_of roots m ≡ root_of roots n
     from p = root_m.1 ∙ ap Some (same_first runs order m n root_m.0 root_n.0 (by_run m n n r (itself n)) p (s.first m root_m.0 root_m.1) (s.first n root_n.0 root_n.1)) ∙ sym root_n.1
 
@@ -123,8 +134,8 @@ finished_stand runs [] o c = refl
 finished_stand runs (w ∷ ws) (apart, to, o) c =
     subst (λ (xs : List ℕ). stand_behind_callees runs [] xs ≡ true) (sym (reverse-append (w ∷ []) ws))
     (stand_last runs [] (reverse ws) w (finished_stand runs ws o c)
-        (ap (λ xs. list_all (is_among xs) (callees runs w)) (append-nil (reverse (reverse ws)) ∙ reverse-reverse ws) ∙ all_among ws (callees runs w)
-            (λ n a. elim (to w n (among_head w ws) a) [ inl b ↦ b | inr p ↦ absurd (c w n a p) ])))
+    (ap (λ xs. list_all (is_among xs) (callees runs w)) (append-nil (reverse (reverse ws)) ∙ reverse-reverse ws) ∙ all_among ws (callees runs w)
+    (λ n a. elim (to w n (among_head w ws) a) [ inl b ↦ b | inr p ↦ absurd (c w n a p) ])))
 
 all_of_range : (xs : List ℕ) (from len : ℕ) → ((m : ℕ) → m < from + len → is_among xs m ≡ true) → list_all (is_among xs) (range_with_len from len) ≡ true
 all_of_range xs from zero h = refl
@@ -133,8 +144,9 @@ all_of_range xs from (suc len) h = and_from (is_among xs from) (list_all (is_amo
 among_reverse : (xs : List ℕ) (m : ℕ) → is_among xs m ≡ true → is_among (reverse xs) m ≡ true
 among_reverse [] m a = a
 among_reverse (x ∷ xs) m a = subst (λ (ys : List ℕ). is_among ys m ≡ true) (sym (reverse-append (x ∷ []) xs)) (elim (among_cases x xs m a) [
-    inl is ↦ subst (λ (j : ℕ). is_among (reverse xs ++ x ∷ []) j ≡ true) is (push_last (reverse xs) x)
-  | inr b ↦ push_left (reverse xs) x m (among_reverse xs m b) ])
+  | inl is ↦ subst (λ (j : ℕ). is_among (reverse xs ++ x ∷ []) j ≡ true) is (push_last (reverse xs) x)
+  | inr b ↦ push_left (reverse xs) x m (among_reverse xs m b)
+])
 
 pub callees_come_first : (runs : List (List ℕ)) (finished : List ℕ) → IsFinishOrder runs (reverse finished) → HasAll runs (reverse finished) → HasNoCycle runs → is_callees_first runs finished ≡ true
 callees_come_first runs finished o all c =

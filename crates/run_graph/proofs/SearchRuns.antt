@@ -4,7 +4,7 @@ use Rattle.std.proofs.lemmas.List.{reverse-append}
 use Rattle.std.proofs.lemmas.Option.{slice_get_within, slice_get_read, get_or_from_slice_get}
 use Rattle.run_graph.specs.declared.search.Frame.{Frame}
 use Rattle.run_graph.specs.Reach.{callees, InRange}
-use Rattle.run_graph.specs.Search.{IsSearch, StaySeen, opening}
+use Rattle.run_graph.specs.Search.{IsSearch, opening}
 use Rattle.run_graph.proofs.SearchSteps.{opened, followed_one, followed_new, finished_one, among_at}
 
 pub stay_set : (seen : List Bool) (m n : ℕ) → slice_get seen n ≡ Some true → slice_get (set seen m true) n ≡ Some true

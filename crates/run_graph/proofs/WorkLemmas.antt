@@ -1,11 +1,10 @@
 -- What a step of a search leaves to do.
-use Rattle.std.proofs.Common.{◌≡◌, ℕ, zero, suc, ◌<◌, ◌≤◌, ◌+◌, ◌-◌, Bool, true, false, Some, List, [], ◌∷◌, ◌++◌, length, set, slice_get, refl, arith}
-use Rattle.std.specs.List.{sum_by}
+use Rattle.std.proofs.Common.{◌≡◌, ℕ, zero, suc, ◌<◌, ◌+◌, Bool, true, false, Some, List, [], ◌∷◌, ◌++◌, length, set, slice_get, arith}
 use Rattle.std.proofs.lemmas.List.Sums.{sum_by-append}
 use Rattle.run_graph.specs.declared.search.Frame.{Frame}
 use Rattle.run_graph.specs.Reach.{callees}
 use Rattle.run_graph.specs.Search.{opening}
-use Rattle.run_graph.specs.Work.{unseen_work, frame_work, work_left}
+use Rattle.run_graph.specs.Work.{unseen_work, work_left}
 
 pub unseen_one_less : (seen : List Bool) (runs : List (List ℕ)) (m : ℕ) → length seen ≡ length runs → slice_get seen m ≡ Some false
     → unseen_work (set seen m true) runs + (length (callees runs m) + 1) ≡ unseen_work seen runs

@@ -34,7 +34,12 @@ fn root_of(roots: &[Option<u32>], at: u32) -> Option<u32>
 }
 
 /// Gives the root to itself and to all modules without one that it reaches, unless it has one.
-fn visit(alloc: Global, graph: &[Items<u32>], root: u32, roots: &mut Vec<Option<u32>>) -> Result<(), NoMemory>
+fn visit(
+    alloc: Global,
+    graph: &[Items<u32>],
+    root: u32,
+    roots: &mut Vec<Option<u32>>,
+) -> Result<(), NoMemory>
     requires in_range { InRange graph.now }
     requires size { length roots.old.items ≡ length graph.now }
     requires within { root < length graph.now }
@@ -48,7 +53,11 @@ fn visit(alloc: Global, graph: &[Items<u32>], root: u32, roots: &mut Vec<Option<
 }
 
 /// The roots of all modules, given the order in which a search is done with them.
-fn give_roots(alloc: Global, runs: &[Items<u32>], finished: &[u32]) -> Result<Vec<Option<u32>>, NoMemory>
+fn give_roots(
+    alloc: Global,
+    runs: &[Items<u32>],
+    finished: &[u32],
+) -> Result<Vec<Option<u32>>, NoMemory>
     requires short { length runs.now ≤ 2 ^ 32 }
     requires in_range { InRange runs.now }
     requires order { IsFinishOrder runs.now (reverse finished.now) }

@@ -20,7 +20,12 @@ fn callees_of(graph: &[Items<u32>], at: u32) -> &[u32]
 }
 
 /// Gives the root to each of these modules that has none, and puts it on the fringe.
-fn spread(modules: &[u32], root: u32, roots: &mut Vec<Option<u32>>, fringe: &mut Items<u32>) -> Result<(), NoMemory>
+fn spread(
+    modules: &[u32],
+    root: u32,
+    roots: &mut Vec<Option<u32>>,
+    fringe: &mut Items<u32>,
+) -> Result<(), NoMemory>
     requires { (m : ℕ) → is_among modules.now m ≡ true → m < length roots.old.items }
     ensures { OnOk result (Spreads modules.now root roots.old.items roots.new.items fringe.old fringe.new) }
 {
@@ -34,7 +39,12 @@ fn spread(modules: &[u32], root: u32, roots: &mut Vec<Option<u32>>, fringe: &mut
 }
 
 /// Gives the root to itself and to all modules without one that it reaches.
-pub fn flood(alloc: Global, graph: &[Items<u32>], root: u32, roots: &mut Vec<Option<u32>>) -> Result<(), NoMemory>
+pub fn flood(
+    alloc: Global,
+    graph: &[Items<u32>],
+    root: u32,
+    roots: &mut Vec<Option<u32>>,
+) -> Result<(), NoMemory>
     requires in_range { InRange graph.now }
     requires size { length roots.old.items ≡ length graph.now }
     requires within { root < length graph.now }

@@ -42,10 +42,7 @@ impl Search {
         ensures seen { OnOk result (self.new.seen.items ≡ slice_set self.old.seen.items at true) }
         ensures finished { self.new.finished ≡ self.old.finished }
     {
-        self.path.push(Frame {
-            at,
-            next: 0,
-        })?;
+        self.path.push(Frame { at, next: 0 })?;
         self.seen[at as usize] = true;
         Ok(())
     }

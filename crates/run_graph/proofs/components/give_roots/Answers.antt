@@ -1,4 +1,4 @@
-use Rattle.std.proofs.Common.{◌≡◌, ℕ, ◌+◌, ◌-◌, ◌<◌, ◌≤◌, Option, List, length, take, get_or, reverse, refl, sym, ◌∙◌, ap, subst, arith}
+use Rattle.std.proofs.Common.{◌≡◌, ℕ, ◌-◌, ◌<◌, ◌≤◌, List, length, get_or, reverse, sym, ◌∙◌, ap, subst}
 use Rattle.std.proofs.lemmas.List.{get_or-reverse, length-reverse, take_all}
 use Rattle.run_graph.specs.Flood.{Floods}
 use Rattle.run_graph.specs.Components.{IsRooting}
@@ -13,7 +13,7 @@ behind_there finished k l = subst (λ (j : ℕ). k < j) (sym (length-reverse fin
 pub visit-requires-clause-within : goal.visit-requires-clause-within
 visit-requires-clause-within c =
     let there : get_or (reverse c.args.finished.now) c.finished.behind 0 < length c.args.runs.now =
-        c.requires.there (get_or (reverse c.args.finished.now) c.finished.behind 0) (among_index (reverse c.args.finished.now) c.finished.behind (behind_there c.args.finished.now c.finished.behind c.finished-test.true)) in
+    c.requires.there (get_or (reverse c.args.finished.now) c.finished.behind 0) (among_index (reverse c.args.finished.now) c.finished.behind (behind_there c.args.finished.now c.finished.behind c.finished-test.true)) in
     let is : get_or (reverse c.args.finished.now) c.finished.behind 0 ≡ get_or c.args.finished.now (length c.args.finished.now - 1 - c.finished.behind) 0 = get_or-reverse c.args.finished.now c.finished.behind 0 c.finished-test.true in
     let size : length c.as_slice.result.now ≡ length c.args.runs.now = ap length c.as_slice.ensures.value ∙ c.in_ok-callers.ensures.size in
     subst (λ (j : ℕ). j < length c.as_slice.result.now) is (subst (λ (j : ℕ). get_or (reverse c.args.finished.now) c.finished.behind 0 < j) (sym size) there)

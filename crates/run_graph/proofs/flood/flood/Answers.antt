@@ -1,8 +1,7 @@
-use Rattle.std.proofs.Common.{◌≡◌, ℕ, ◌+◌, ◌<◌, true, Option, Some, None, List, [], ◌∷◌, ◌++◌, length, set, take, get_or, slice_get, refl, sym, ◌∙◌, ap, subst, arith}
-use Rattle.module_tree.specs.Runs.{is_among, or_none}
-use Rattle.run_graph.specs.Reach.{callees}
+use Rattle.std.proofs.Common.{◌≡◌, ℕ, ◌+◌, ◌<◌, Some, List, [], ◌∷◌, ◌++◌, length, set, refl, sym, ◌∙◌, ap, subst, arith}
+use Rattle.module_tree.specs.Runs.{is_among}
 use Rattle.std.proofs.lemmas.List.{length_push}
-use Rattle.run_graph.specs.Flood.{rootless, Spreads, HasRoot, root_of}
+use Rattle.run_graph.specs.Flood.{rootless, Spreads}
 use Rattle.run_graph.proofs.FloodLemmas.{flood_begins, flood_goes_on, flood_ends}
 use Rattle.run_graph.proofs.flood.flood.Goals as goal
 

@@ -4,7 +4,7 @@ use Rattle.run_graph.proofs.search.finish_order.Given as goal
 
 abbrev pub invariant-modules : goal.invariant-modules
 invariant-modules l = record {
-    search : IsSearch l.runs l.search.seen.items [] (reverse l.search.finished);
-    ended : l.search.path ≡ [];
-    seen : (m : ℕ) → m < l.at → slice_get l.search.seen.items m ≡ Some true;
+  search : IsSearch l.runs l.search.seen.items [] (reverse l.search.finished);
+  ended : l.search.path ≡ [];
+  seen : (m : ℕ) → m < l.at → slice_get l.search.seen.items m ≡ Some true;
 }
