@@ -4,3 +4,4 @@ pub mod SourceKinds
 pub mod Rows
 pub mod FirstFault
 pub mod Resolved
+pub mod InnermostFirst
