@@ -1,13 +1,15 @@
 -- Entering and leaving a declaration.
-use Rattle.std.proofs.Common.{◌≡◌, ℕ, Bool, true, false, cond, Option, Some, None, List, [], ◌∷◌, ◌++◌, drop, map, reverse, refl, sym, ◌∙◌, ap, subst}
+use Rattle.std.proofs.Common.{◌≡◌, ℕ, Bool, true, false, cond, Option, Some, None, List, [], ◌∷◌, ◌++◌, drop, map, reverse, option_map, refl, sym, ◌∙◌, ap, subst}
+use Rattle.std.specs.List.{find}
 use Rattle.std.specs.Str.{bytes_eq}
 use Rattle.std.specs.String.{string_bytes}
 use Rattle.std.proofs.lemmas.List.{reverse-append}
 use Rattle.indexmap.specs.IndexMap.{get_by_text}
+use Rattle.module_tree.specs.Scopes.{Signal}
 use Rattle.module_link.specs.declared.scope.Declaration.{Declaration}
 use Rattle.module_link.specs.declared.scope.Scope.{Scope}
 use Rattle.module_link.specs.Named.{Name}
-use Rattle.module_link.specs.InnermostFirst.{Named, place_in, named, in_scope, KeepHidden, IsScope, declares}
+use Rattle.module_link.specs.InnermostFirst.{Named, place_in, named, in_scope, KeepHidden, IsScope, declares, shown}
 
 reverse_push : {A : Type 0} (xs : List A) (x : A) (ys : List A) → ys ≡ xs ++ x ∷ [] → reverse ys ≡ x ∷ reverse xs
 reverse_push xs x ys e = ap reverse e ∙ reverse-append xs (x ∷ [])
@@ -46,3 +48,15 @@ scope_left old new d s e finds same =
 
 pub left_in_scope : (old new : Scope) (d : Declaration) → old.declared ≡ new.declared ++ d ∷ [] → in_scope new ≡ drop 1 (in_scope old)
 left_in_scope old new d e = sym (ap (λ ds. drop 1 (map named ds)) (reverse_push new.declared d old.declared e))
+
+-- ---- lists of signals
+
+-- a name in scope means the same in the table as in the scope itself
+pub found_signal : (signals : List Signal) (name : Name) → place_in (map shown signals) name ≡ option_map (λ (s : Signal). s.place) (find (λ (s : Signal). bytes_eq s.signal.name name) signals)
+found_signal [] name = refl
+found_signal (s ∷ others) name = by (bytes_eq s.signal.name name) (found_signal others name)
+  where
+    by : (b : Bool) → place_in (map shown others) name ≡ option_map (λ (s : Signal). s.place) (find (λ (s : Signal). bytes_eq s.signal.name name) others)
+        → cond b (Some s.place) (place_in (map shown others) name) ≡ option_map (λ (s : Signal). s.place) (cond b (Some s) (find (λ (s : Signal). bytes_eq s.signal.name name) others))
+    by true rest = refl
+    by false rest = rest

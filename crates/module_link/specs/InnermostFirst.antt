@@ -4,6 +4,7 @@ use Rattle.std.specs.Prelude.{◌≡◌, ℕ, cond, Option, Some, None, List, []
 use Rattle.std.specs.Str.{bytes_eq}
 use Rattle.std.specs.String.{string_bytes}
 use Rattle.indexmap.specs.IndexMap.{get_by_text}
+use Rattle.module_tree.specs.Scopes.{Signal}
 use Rattle.module_link.specs.declared.scope.Declaration.{Declaration}
 use Rattle.module_link.specs.declared.scope.Scope.{Scope}
 use Rattle.module_link.specs.Named.{Name}
@@ -15,6 +16,10 @@ pub record Named : Type 0 where
 
 abbrev pub declares : Name → ℕ → Named
 declares name place = record { name = name; place = place }
+
+-- what a table of names shows of a signal
+abbrev pub shown : Signal → Named
+shown s = declares s.signal.name s.place
 
 -- the first of the name, if it has one
 abbrev pub place_in : List Named → Name → Option ℕ

@@ -2,6 +2,7 @@
 
 use hh_base::memory::NoMemory;
 use indexmap::IndexMap;
+use module_tree::source::SignalNode;
 use sqlite_items::Items;
 use std::alloc::Global;
 
@@ -21,8 +22,9 @@ pub struct Scope {
 }
 
 impl Scope {
-    ghost use Rattle.std.specs.Prelude.{◌≡◌, [], ◌∷◌, drop, OnOk};
-    ghost use Rattle.module_link.specs.InnermostFirst.{IsScope, in_scope, place_in, declares};
+    ghost use Rattle.std.specs.Prelude.{◌≡◌, ◌+◌, ◌≤◌, ◌^◌, [], ◌∷◌, ◌++◌, length, map, drop, OnOk};
+    ghost use Rattle.module_link.specs.InnermostFirst.{IsScope, in_scope, place_in, declares, shown};
+    ghost use Rattle.module_tree.specs.Scopes.{local_signals};
 
     /// With no name in it.
     pub fn new(alloc: Global) -> Scope
@@ -76,6 +78,32 @@ impl Scope {
             None => {
                 self.places.swap_remove(name.as_str());
             }
+        }
+        Ok(())
+    }
+
+    /// Declares the signals of a list, the first of which has this place. The first of a name is the one that is found.
+    pub fn enter_signals(&mut self, alloc: Global, signals: &[SignalNode], first: u32) -> Result<(), NoMemory>
+        requires scope { IsScope self.old }
+        requires short { first + length signals.now ≤ 2 ^ 32 }
+        ensures scope { OnOk result (IsScope self.new) }
+        ensures declared { OnOk result (in_scope self.new ≡ map shown (local_signals first signals.now) ++ in_scope self.old) }
+    {
+        'signals: for behind in 0..signals.len() {
+            let at = signals.len() - 1 - behind;
+            self.enter(alloc, signals[at].name.as_str(), first + at as u32)?;
+        }
+        Ok(())
+    }
+
+    /// Takes the innermost declarations away, this many.
+    pub fn leave_all(&mut self, count: usize) -> Result<(), NoMemory>
+        requires { IsScope self.old }
+        ensures scope { OnOk result (IsScope self.new) }
+        ensures declared { OnOk result (in_scope self.new ≡ drop count (in_scope self.old)) }
+    {
+        'declared: for left in 0..count {
+            self.leave()?;
         }
         Ok(())
     }
