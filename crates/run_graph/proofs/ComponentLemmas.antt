@@ -1,4 +1,5 @@
--- What an order of finishing says of cycles: a module that is the first in it of all that another module reaches,
+-- What an order of finishing says of cycles: a module that is the first in it of all that another module
+-- reaches,
 -- reaches that module.
 use Rattle.std.proofs.Common.{◌≡◌, ℕ, ◌⊎◌, true, false, List, [], ◌∷◌, refl, sym, ◌∙◌, subst, inl, inr}
 use Rattle.std.proofs.lemmas.Bool.{both_ways}
@@ -23,7 +24,8 @@ reached runs r x (w ∷ ws) (p, inl e) = subst (λ (n : ℕ). Reaches runs r n) 
 reached runs r x (w ∷ ws) (p, inr h) = reached runs r x ws h
 
 -- x runs y, which r reaches, and y is not finished before those of the list
-up_to_caller : (runs : List (List ℕ)) (r x y : ℕ) (ws : List ℕ) → IsFinishOrder runs ws → Runs runs x y → Reaches runs r y
+up_to_caller : (runs : List (List ℕ)) (r x y : ℕ) (ws : List ℕ) → IsFinishOrder runs ws → Runs runs x y
+    → Reaches runs r y
     → is_among ws y ≡ false → is_among ws x ≡ true → ReachesUpTo runs r x ws
 up_to_caller runs r x y [] o e p n a = absurd (both_ways false refl a)
 up_to_caller runs r x y (z ∷ zs) (apart, to, o) e p n a =
@@ -43,28 +45,43 @@ caller_up_to runs r x y (w ∷ ws) (apart, to, o) e (p, more) a =
     elim (among_cases w ws x a) [
       | inl here ↦ (p, inl here)
       | inr later ↦ elim more [
-        | inl is ↦ (p, inr (up_to_caller runs r x y ws o e (subst (λ (n : ℕ). Reaches runs r n) is p) (subst (λ (n : ℕ). is_among ws n ≡ false) is apart) later))
+        | inl is ↦ (
+          p,
+          inr (up_to_caller runs r x y ws o e (subst (λ (n : ℕ). Reaches runs r n) is p)
+              (subst (λ (n : ℕ). is_among ws n ≡ false) is apart) later),
+        )
         | inr u ↦ (p, inr (caller_up_to runs r x y ws o e u later))
       ]
     ]
 
-up_to_all : (runs : List (List ℕ)) (w : ℕ) (ws : List ℕ) (x r : ℕ) → IsFinishOrder runs (w ∷ ws) → Reaches runs x r → r ≡ w
+up_to_all : (runs : List (List ℕ)) (w : ℕ) (ws : List ℕ) (x r : ℕ) → IsFinishOrder runs (w ∷ ws)
+    → Reaches runs x r → r ≡ w
     → ((z : ℕ) → Reaches runs x z → is_among (w ∷ ws) z ≡ true) → ReachesUpTo runs r x (w ∷ ws)
-up_to_all runs w ws x r o (itself m) is all = (subst (λ (n : ℕ). Reaches runs m n) is (itself m), inl (sym is))
+up_to_all runs w ws x r o (itself m) is all = (
+  subst (λ (n : ℕ). Reaches runs m n) is (itself m),
+  inl (sym is),
+)
 up_to_all runs w ws x r o (by_run m n k e p) is all =
-    caller_up_to runs k m n (w ∷ ws) o e (up_to_all runs w ws n k o p is (λ z q. all z (by_run m n z e q))) (all m (itself m))
+    caller_up_to runs k m n (w ∷ ws) o e (up_to_all runs w ws n k o p is (λ z q. all z (by_run m n z e q)))
+    (all m (itself m))
 
 -- where an order has all that v reaches, the first in it that v reaches, reaches v
 pub first_reaches_back : (runs : List (List ℕ)) (ws : List ℕ) (v r : ℕ) → IsFinishOrder runs ws
     → ((z : ℕ) → Reaches runs v z → is_among ws z ≡ true) → IsFirstReached runs v r ws → Reaches runs r v
 first_reaches_back runs [] v r o all h = absurd h
 first_reaches_back runs (w ∷ ws) v r o all (inl (is, p)) =
-    reached runs r v (w ∷ ws) (up_to_all runs w ws v r o (subst (λ (n : ℕ). Reaches runs v n) (sym is) p) is all)
+    reached runs r v (w ∷ ws) (up_to_all runs w ws v r o (subst (λ (n : ℕ). Reaches runs v n) (sym is) p)
+    is all)
 first_reaches_back runs (w ∷ ws) v r (apart, to, o) all (inr (not, h)) =
     first_reaches_back runs ws v r o
-    (λ z q. elim (among_cases w ws z (all z q)) [ inl is ↦ absurd (not (subst (λ (n : ℕ). Reaches runs v n) (sym is) q)) | inr later ↦ later ]) h
+    (λ z q. elim (among_cases w ws z (all z q)) [
+      | inl is ↦
+          absurd (not (subst (λ (n : ℕ). Reaches runs v n) (sym is) q))
+      | inr later ↦ later
+    ]) h
 
-pub first_is_reached : (runs : List (List ℕ)) (ws : List ℕ) (v r : ℕ) → IsFirstReached runs v r ws → Reaches runs v r
+pub first_is_reached : (runs : List (List ℕ)) (ws : List ℕ) (v r : ℕ) → IsFirstReached runs v r ws
+    → Reaches runs v r
 first_is_reached runs [] v r h = absurd h
 first_is_reached runs (w ∷ ws) v r (inl (is, p)) = subst (λ (n : ℕ). Reaches runs v n) (sym is) p
 first_is_reached runs (w ∷ ws) v r (inr (not, h)) = first_is_reached runs ws v r h

@@ -9,4 +9,5 @@ AreCallers runs callers = (m n : ℕ) → is_among (callees callers n) m ≡ is_
 
 -- the caller is added to those of each called module
 abbrev pub AddsCaller : List (List ℕ) → List (List ℕ) → List ℕ → ℕ → Type 0
-AddsCaller old new called caller = (m n : ℕ) → is_among (callees new n) m ≡ (is_among (callees old n) m || ((caller == m) && is_among called n))
+AddsCaller old new called caller = (m n : ℕ) → is_among (callees new n) m ≡ (is_among (callees old n) m
+    || ((caller == m) && is_among called n))

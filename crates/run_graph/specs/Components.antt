@@ -1,4 +1,5 @@
--- The components of the graph of runs: two modules that reach each other have one root. (Strongly connected components,
+-- The components of the graph of runs: two modules that reach each other have one root. (Strongly connected
+-- components,
 -- Tarjan, 1972.)
 use Rattle.std.specs.Prelude.{◌≡◌, ℕ, ◌⊎◌, ◌↔◌, true, Option, Some, List, [], ◌∷◌, length}
 use Rattle.module_tree.specs.Runs.{is_among}
@@ -8,10 +9,13 @@ use Rattle.run_graph.specs.Flood.{root_of, HasRoot, AreClosed}
 -- r is the first in the list of all that v reaches
 abbrev pub IsFirstReached : List (List ℕ) → ℕ → ℕ → List ℕ → Type 0
 IsFirstReached runs v r [] = ⊥
-IsFirstReached runs v r (w ∷ ws) = ((r ≡ w) × Reaches runs v w) ⊎ ((Reaches runs v w → ⊥) × IsFirstReached runs v r ws)
+IsFirstReached runs v r (w ∷ ws) = ((r ≡ w) × Reaches runs v w)
+    ⊎ ((Reaches runs v w → ⊥) × IsFirstReached runs v r ws)
 
--- the root of a module is the first in the order of all that it reaches; roots are given to all that reach one of `done`
-pub record IsRooting (runs callers : List (List ℕ)) (order done : List ℕ) (roots : List (Option ℕ)) : Type 0 where
+-- the root of a module is the first in the order of all that it reaches; roots are given to all that reach
+-- one of `done`
+pub record IsRooting (runs callers : List (List ℕ)) (order done : List ℕ) (roots : List (Option ℕ)) : Type
+    0 where
   pub size : length roots ≡ length runs
   pub first : (m r : ℕ) → root_of roots m ≡ Some r → IsFirstReached runs m r order
   pub closed : AreClosed callers roots

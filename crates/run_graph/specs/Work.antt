@@ -1,4 +1,5 @@
--- How much a search has still to do: one for each run that is not followed, and one for each module that is not finished.
+-- How much a search has still to do: one for each run that is not followed, and one for each module that is
+-- not finished.
 use Rattle.std.specs.Prelude.{ℕ, ◌+◌, ◌-◌, Bool, true, false, List, [], ◌∷◌, length}
 use Rattle.std.specs.List.{sum_by}
 use Rattle.run_graph.specs.declared.search.Frame.{Frame}

@@ -1,6 +1,7 @@
 //! The runs of modules, turned round.
 
-ghost use Rattle.std.specs.Prelude.{◌≡◌, ℕ, ◌++◌, ◌∷◌, [], ◌<◌, ◌≤◌, ◌^◌, true, length, replicate, slice_set, IfOk, OnOk};
+ghost use Rattle.std.specs.Prelude.{◌≡◌, ℕ, ◌++◌, ◌∷◌, [], ◌<◌, ◌≤◌, ◌^◌, true, length, replicate, slice_set};
+ghost use Rattle.std.specs.Prelude.{IfOk, OnOk};
 ghost use Rattle.module_tree.specs.Runs.{is_among};
 ghost use Rattle.run_graph.specs.Reach.{InRange, callees};
 ghost use Rattle.run_graph.specs.Callers.{AreCallers, AddsCaller};
@@ -11,7 +12,8 @@ use std::alloc::Global;
 
 fn add(callers: &mut Vec<Items<u32>>, callee: u32, caller: u32) -> Result<(), NoMemory>
     requires { callee < length callers.old.items }
-    ensures { OnOk result (callers.new.items ≡ slice_set callers.old.items callee (callees callers.old.items callee ++ caller ∷ [])) }
+    ensures { OnOk result (callers.new.items ≡ slice_set callers.old.items callee
+        (callees callers.old.items callee ++ caller ∷ [])) }
 {
     callers[callee as usize].push(caller)?;
     Ok(())

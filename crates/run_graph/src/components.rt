@@ -19,7 +19,8 @@ use std::alloc::Global;
 pub struct Components {
     /// For each module, by its place, the one that stands for its component.
     pub roots: Items<Option<u32>>,
-    /// The places of all modules. Where no run lies on a cycle, each stands behind those of the modules that it runs.
+    /// The places of all modules. Where no run lies on a cycle, each stands behind those of the modules
+    /// that it runs.
     pub callees_first: Items<u32>,
 }
 
@@ -74,13 +75,15 @@ fn give_roots(
     Ok(roots)
 }
 
-/// The components of the modules whose runs these are, by their places. Time and memory grow with the number of
+/// The components of the modules whose runs these are, by their places. Time and memory grow with the
+/// number of
 /// modules and runs.
 pub fn components_of(alloc: Global, runs: &[Items<u32>]) -> Result<Components, NoMemory>
     requires short { length runs.now ≤ 2 ^ 32 }
     requires in_range { InRange runs.now }
     ensures cycles { IfOk result (λ c. ShowCycles runs.now c.roots) }
-    ensures order { IfOk result (λ c. HasNoCycle runs.now → is_callees_first runs.now c.callees_first ≡ true) }
+    ensures order { IfOk result (λ c. HasNoCycle runs.now
+        → is_callees_first runs.now c.callees_first ≡ true) }
 {
     let callees_first = finish_order(alloc, runs)?;
     let roots = Items::from_vec(give_roots(alloc, runs, callees_first.as_slice())?);

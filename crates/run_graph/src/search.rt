@@ -1,6 +1,7 @@
 //! A depth-first search over the runs of modules.
 
-ghost use Rattle.std.specs.Prelude.{◌≡◌, ℕ, ◌+◌, ◌<◌, ◌≤◌, ◌^◌, [], ◌∷◌, ◌++◌, true, false, length, reverse, IfOk, OnOk, OnSome, slice_get, slice_set};
+ghost use Rattle.std.specs.Prelude.{◌≡◌, ℕ, ◌+◌, ◌<◌, ◌≤◌, ◌^◌, [], ◌∷◌, ◌++◌, true, false, length, reverse};
+ghost use Rattle.std.specs.Prelude.{IfOk, OnOk, OnSome, slice_get, slice_set};
 ghost use Rattle.run_graph.specs.Reach.{InRange, callees};
 ghost use Rattle.run_graph.specs.Search.{IsSearch, StaySeen, IsFinishOrder, HasAll, AreThere, opening};
 ghost use Rattle.run_graph.specs.Work.{work_left};
@@ -47,14 +48,18 @@ impl Search {
         Ok(())
     }
 
-    /// Follows one run of the innermost module, or is done with that module. False where the search is in no module.
+    /// Follows one run of the innermost module, or is done with that module. False where the search is in
+    /// no module.
     fn step(&mut self, runs: &[Items<u32>]) -> Result<bool, NoMemory>
         requires in_range { InRange runs.now }
-        requires search { IsSearch runs.now self.old.seen.items (reverse self.old.path) (reverse self.old.finished) }
-        ensures search { OnOk result (IsSearch runs.now self.new.seen.items (reverse self.new.path) (reverse self.new.finished)) }
+        requires search { IsSearch runs.now self.old.seen.items (reverse self.old.path)
+            (reverse self.old.finished) }
+        ensures search { OnOk result (IsSearch runs.now self.new.seen.items (reverse self.new.path)
+            (reverse self.new.finished)) }
         ensures kept { OnOk result (StaySeen self.old.seen.items self.new.seen.items) }
         ensures ended { result ≡ Ok false → self.new.path ≡ [] }
-        ensures less { result ≡ Ok true → work_left runs.now self.new.seen.items self.new.path < work_left runs.now self.old.seen.items self.old.path }
+        ensures less { result ≡ Ok true → work_left runs.now self.new.seen.items self.new.path < work_left
+            runs.now self.old.seen.items self.old.path }
     {
         let Some(frame) = self.path.pop() else {
             return Ok(false);
@@ -76,7 +81,8 @@ impl Search {
     /// Goes on until it is in no module.
     fn run(&mut self, runs: &[Items<u32>]) -> Result<(), NoMemory>
         requires in_range { InRange runs.now }
-        requires search { IsSearch runs.now self.old.seen.items (reverse self.old.path) (reverse self.old.finished) }
+        requires search { IsSearch runs.now self.old.seen.items (reverse self.old.path)
+            (reverse self.old.finished) }
         ensures search { OnOk result (IsSearch runs.now self.new.seen.items [] (reverse self.new.finished)) }
         ensures ended { OnOk result (self.new.path ≡ []) }
         ensures kept { OnOk result (StaySeen self.old.seen.items self.new.seen.items) }

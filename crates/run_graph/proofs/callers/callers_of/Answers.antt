@@ -8,16 +8,23 @@ use Rattle.run_graph.proofs.callers.callers_of.Goals as goal
 
 pub add_to_all-requires : goal.add_to_all-requires
 add_to_all-requires c n a =
-    let called : callees c.args.runs.now c.modules.caller ≡ c.as_slice.result.now = callees_read c.args.runs.now c.modules.caller c.index-runs-caller.result c.modules-test.true c.index-runs-caller.is ∙ sym c.as_slice.ensures in
-    let l : n < length c.args.runs.now = c.requires.in_range c.modules.caller n (ap (λ ms. is_among ms n) called ∙ a) in
+    let called : callees c.args.runs.now c.modules.caller ≡ c.as_slice.result.now =
+    callees_read c.args.runs.now c.modules.caller c.index-runs-caller.result c.modules-test.true
+    c.index-runs-caller.is ∙ sym c.as_slice.ensures in
+    let l : n < length c.args.runs.now = c.requires.in_range c.modules.caller n
+    (ap (λ ms. is_among ms n) called ∙ a) in
     let e : length c.modules.callers.items ≡ length c.args.runs.now = c.modules.invariant.size in omega arith
 
 pub modules-preserved : goal.modules-preserved
 modules-preserved c =
-    let called : callees c.args.runs.now c.modules.caller ≡ c.as_slice.result.now = callees_read c.args.runs.now c.modules.caller c.index-runs-caller.result c.modules-test.true c.index-runs-caller.is ∙ sym c.as_slice.ensures in
+    let called : callees c.args.runs.now c.modules.caller ≡ c.as_slice.result.now =
+    callees_read c.args.runs.now c.modules.caller c.index-runs-caller.result c.modules-test.true
+    c.index-runs-caller.is ∙ sym c.as_slice.ensures in
     record {
-      callers = callers_more c.args.runs.now c.modules.callers.items c.add_to_all.new.callers.items c.modules.caller c.modules.invariant.callers
-          (subst (λ (ms : List ℕ). AddsCaller c.modules.callers.items c.add_to_all.new.callers.items ms c.modules.caller) (sym called) c.in_ok-add_to_all.ensures.added);
+      callers = callers_more c.args.runs.now c.modules.callers.items c.add_to_all.new.callers.items
+          c.modules.caller c.modules.invariant.callers
+          (subst (λ (ms : List ℕ). AddsCaller c.modules.callers.items c.add_to_all.new.callers.items ms
+          c.modules.caller) (sym called) c.in_ok-add_to_all.ensures.added);
       size = c.in_ok-add_to_all.ensures.size ∙ c.modules.invariant.size;
     }
 
