@@ -11,7 +11,9 @@ use Rattle.module_link.specs.declared.fault.LinkKind.TheVariants as fault
 use Rattle.module_link.specs.declared.fault.LinkFault.{LinkFault}
 use Rattle.module_link.specs.Faults.{is_before}
 use Rattle.module_link.specs.Named.{Name}
-use Rattle.module_link.specs.Rows.{Program, twice_declared, unknown_signal, unknown_module, unknown_trap, unknown_body, kind_wrong, emits_input, bad_binding, runs_in, module_place, source_runs}
+use Rattle.module_link.specs.Rows.{Program, twice_declared, unknown_signal, unknown_module, unknown_trap}
+use Rattle.module_link.specs.Rows.{unknown_body, kind_wrong, emits_input, bad_binding, runs_in, module_place}
+use Rattle.module_link.specs.Rows.{source_runs}
 
 -- the module at place k has a run at this position whose module reaches it
 pub record RunsInCycle (parts : Program) (p : Pos) : Type 0 where

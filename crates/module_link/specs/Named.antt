@@ -1,6 +1,8 @@
--- What a name means at a place of a text: the first declaration of that name in the innermost list that has one.
+-- What a name means at a place of a text: the first declaration of that name in the innermost list that has
+-- one.
 -- (Block structure, as in Algol 60.)
-use Rattle.std.specs.Prelude.{ℕ, ◌+◌, ◌&&◌, Bool, true, false, not, cond, Option, Some, None, is_some, List, [], ◌∷◌, ◌++◌, map}
+use Rattle.std.specs.Prelude.{ℕ, ◌+◌, ◌&&◌, Bool, true, false, not, cond, Option, Some, None, is_some, List}
+use Rattle.std.specs.Prelude.{[], ◌∷◌, ◌++◌, map}
 use Rattle.std.specs.List.{find, list_any, filter}
 use Rattle.std.specs.Str.{bytes_eq}
 use Rattle.hh_base.specs.declared.value.Kind.{Kind}
@@ -34,7 +36,8 @@ parameter_named parameters name = find (λ (p : ParameterNode). bytes_eq p.name 
 
 -- an interface signal, with its place in the interface
 abbrev pub interface_named : List InterfaceNode → Name → Option Signal
-interface_named interface name = find (λ (s : Signal). bytes_eq s.signal.name name) (interface_signals interface)
+interface_named interface name = find (λ (s : Signal). bytes_eq s.signal.name name)
+    (interface_signals interface)
 
 -- the first place at which a name stands in a list
 abbrev pub place_from : ℕ → List Name → Name → Option ℕ
@@ -50,4 +53,5 @@ is_named names name = list_any (λ (n : Name). bytes_eq n name) names
 -- without the declarations of names that are declared before
 abbrev pub first_ones : List Name → List Signal → List Signal
 first_ones before [] = []
-first_ones before (s ∷ others) = cond (is_named before s.signal.name) (first_ones before others) (s ∷ first_ones (s.signal.name ∷ before) others)
+first_ones before (s ∷ others) = cond (is_named before s.signal.name) (first_ones before others)
+    (s ∷ first_ones (s.signal.name ∷ before) others)

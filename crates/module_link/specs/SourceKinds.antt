@@ -1,4 +1,5 @@
--- The kinds of an expression as it is written. A name that means nothing has no kind, and no node over it is judged.
+-- The kinds of an expression as it is written. A name that means nothing has no kind, and no node over it
+-- is judged.
 -- This project's own.
 use Rattle.std.specs.Prelude.{ℕ, Bool, cond, Option, Some, None, List, [], ◌∷◌, ◌++◌}
 use Rattle.hh_base.specs.declared.value.Pos.{Pos}
@@ -7,7 +8,8 @@ use Rattle.hh_base.specs.declared.value.Kind.TheVariants as kind
 use Rattle.host_expr.specs.declared.expr.Expr.{Expr}
 use Rattle.host_expr.specs.declared.expr.ExprNode.TheOpen as node
 use Rattle.host_expr.specs.declared.expr.ExprNode.TheFolds.{fold-Expr}
-use Rattle.host_expr.specs.Kinds.{status_kind, value_kind, only_int, only_bool, both_bool, arith_kind, one_valued, compare_kind, choose_kind}
+use Rattle.host_expr.specs.Kinds.{status_kind, value_kind, only_int, only_bool, both_bool, arith_kind}
+use Rattle.host_expr.specs.Kinds.{one_valued, compare_kind, choose_kind}
 use Rattle.host_expr.specs.Misfit.{Judged, judged}
 use Rattle.module_tree.specs.declared.source.ExprAt.{ExprAt}
 use Rattle.module_tree.specs.LinkedFacts.{is_kind}
@@ -37,10 +39,12 @@ judged_node signals args (node.Arith op a b) p = judged p (arith_kind op a.kind 
 judged_node signals args (node.Compare rel a b) p = judged p (compare_kind rel a.kind b.kind) (a ∷ b ∷ [])
 judged_node signals args (node.And a b) p = judged p (both_bool a.kind b.kind) (a ∷ b ∷ [])
 judged_node signals args (node.Or a b) p = judged p (both_bool a.kind b.kind) (a ∷ b ∷ [])
-judged_node signals args (node.Choose a b c) p = judged p (choose_kind a.kind (one_valued b.kind c.kind)) (a ∷ b ∷ c ∷ [])
+judged_node signals args (node.Choose a b c) p = judged p (choose_kind a.kind (one_valued b.kind c.kind))
+    (a ∷ b ∷ c ∷ [])
 
 abbrev pub judged_source : Kinds → Kinds → Expr Name → Judged
-judged_source signals args = fold-Expr Name (Pos → Judged) Judged (judged_node signals args) (λ x. x.node x.pos)
+judged_source signals args = fold-Expr Name (Pos → Judged) Judged (judged_node signals args)
+    (λ x. x.node x.pos)
 
 -- where its parts do not fit together
 abbrev pub misfits_in : Kinds → Kinds → ExprAt Name → List Pos
@@ -53,7 +57,8 @@ unless_kind k p (Some own) misfits = cond (is_kind k (Some own)) [] (p ∷ [])
 
 -- the node where its parts do not fit together, or else its first token where its place needs another kind
 abbrev pub wrong_for : Kinds → Kinds → Kind → ExprAt Name → List Pos
-wrong_for signals args k x = unless_kind k x.pos (judged_source signals args x.expr).kind (misfits_in signals args x)
+wrong_for signals args k x = unless_kind k x.pos (judged_source signals args x.expr).kind
+    (misfits_in signals args x)
 
 -- a value of a pure signal is wrong whatever its kind
 abbrev pub wrong_value : List Pos → Pos → List Pos

@@ -60,7 +60,8 @@ impl LinkFault {
     fn is_before(&self, other: &LinkFault) -> bool
         ensures { result ≡ is_before self.now other.now }
     {
-        self.pos.0 < other.pos.0 || (self.pos.0 == other.pos.0 && self.kind.rank() < other.kind.rank())
+        self.pos.0 < other.pos.0
+            || (self.pos.0 == other.pos.0 && self.kind.rank() < other.kind.rank())
     }
 }
 

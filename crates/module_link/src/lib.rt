@@ -1,4 +1,5 @@
-//! The names of a module text: what each of them means, and the faults of a text in which one of them means nothing.
+//! The names of a module text: what each of them means, and the faults of a text in which one of them means
+//! nothing.
 #![tactic(auto)]
 
 pub mod fault;

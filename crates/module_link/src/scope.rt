@@ -68,7 +68,14 @@ impl Scope {
         ensures scope { OnOk result (IsScope self.new) }
         ensures declared { OnOk result (in_scope self.new ≡ drop 1 (in_scope self.old)) }
     {
-        let Some(Declaration { name, place: _, hidden }) = self.declared.pop() else {
+        let Some(
+            Declaration {
+                name,
+                place: _,
+                hidden,
+            },
+        ) = self.declared.pop()
+        else {
             return Ok(());
         };
         match hidden {
@@ -82,12 +89,19 @@ impl Scope {
         Ok(())
     }
 
-    /// Declares the signals of a list, the first of which has this place. The first of a name is the one that is found.
-    pub fn enter_signals(&mut self, alloc: Global, signals: &[SignalNode], first: u32) -> Result<(), NoMemory>
+    /// Declares the signals of a list, the first of which has this place. The first of a name is the one
+    /// that is found.
+    pub fn enter_signals(
+        &mut self,
+        alloc: Global,
+        signals: &[SignalNode],
+        first: u32,
+    ) -> Result<(), NoMemory>
         requires scope { IsScope self.old }
         requires short { first + length signals.now ≤ 2 ^ 32 }
         ensures scope { OnOk result (IsScope self.new) }
-        ensures declared { OnOk result (in_scope self.new ≡ map shown (local_signals first signals.now) ++ in_scope self.old) }
+        ensures declared { OnOk result (in_scope self.new ≡ map shown (local_signals first signals.now)
+            ++ in_scope self.old) }
     {
         'signals: for behind in 0..signals.len() {
             let at = signals.len() - 1 - behind;

@@ -5,6 +5,7 @@ use Rattle.module_link.proofs.scope.Scope.enter_signals.Given as goal
 
 abbrev pub invariant-signals : goal.invariant-signals
 invariant-signals l = record {
-    scope : IsScope l.self;
-    declared : in_scope l.self ≡ map shown (local_signals (l.first + (length l.signals - l.behind)) (drop (length l.signals - l.behind) l.signals)) ++ in_scope l.initial.self;
+  scope : IsScope l.self;
+  declared : in_scope l.self ≡ map shown (local_signals (l.first + (length l.signals - l.behind))
+      (drop (length l.signals - l.behind) l.signals)) ++ in_scope l.initial.self;
 }

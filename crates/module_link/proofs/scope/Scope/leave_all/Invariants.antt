@@ -4,6 +4,6 @@ use Rattle.module_link.proofs.scope.Scope.leave_all.Given as goal
 
 abbrev pub invariant-declared : goal.invariant-declared
 invariant-declared l = record {
-    scope : IsScope l.self;
-    declared : in_scope l.self ≡ drop l.left (in_scope l.initial.self);
+  scope : IsScope l.self;
+  declared : in_scope l.self ≡ drop l.left (in_scope l.initial.self);
 }
