@@ -1,5 +1,5 @@
 -- Entering and leaving a declaration.
-use Rattle.std.proofs.Common.{◌≡◌, ℕ, Bool, true, false, cond, Option, Some, None, List, [], ◌∷◌, ◌++◌, drop}
+use Rattle.std.proofs.Common.{◌≡◌, ℕ, Bool, true, false, cond, Some, List, [], ◌∷◌, ◌++◌, drop}
 use Rattle.std.proofs.Common.{map, reverse, option_map, refl, sym, ◌∙◌, ap, subst}
 use Rattle.std.specs.List.{find}
 use Rattle.std.specs.Str.{bytes_eq}
@@ -10,7 +10,7 @@ use Rattle.module_tree.specs.Scopes.{Signal}
 use Rattle.module_link.specs.declared.scope.Declaration.{Declaration}
 use Rattle.module_link.specs.declared.scope.Scope.{Scope}
 use Rattle.module_link.specs.Named.{Name}
-use Rattle.module_link.specs.InnermostFirst.{Named, place_in, named, in_scope, KeepHidden, IsScope, declares}
+use Rattle.module_link.specs.InnermostFirst.{place_in, named, in_scope, KeepHidden, IsScope, declares}
 use Rattle.module_link.specs.InnermostFirst.{shown}
 
 reverse_push : {A : Type 0} (xs : List A) (x : A) (ys : List A) → ys ≡ xs ++ x ∷ []

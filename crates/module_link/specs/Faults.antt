@@ -1,8 +1,7 @@
--- The order of the faults of names, kinds and runs: by position, and at one position as the kinds are listed.
--- This project's own.
-use Rattle.std.specs.Prelude.{ℕ, ◌&&◌, ◌||◌, ◌==◌, nat_lt, Bool, Option, Some, None, List, [], ◌∷◌}
+-- The order of the faults of names, kinds and runs: by position, and at one position as the kinds are
+-- listed. This project's own.
+use Rattle.std.specs.Prelude.{ℕ, ◌&&◌, ◌||◌, ◌==◌, nat_lt, Bool, Option, Some, None}
 use Rattle.std.specs.Prelude.{if◌then◌else◌}
-use Rattle.hh_base.specs.declared.value.Pos.{Pos}
 use Rattle.module_link.specs.declared.fault.LinkKind.{LinkKind}
 use Rattle.module_link.specs.declared.fault.LinkKind.TheVariants as fault
 use Rattle.module_link.specs.declared.fault.LinkFault.{LinkFault}

@@ -1,5 +1,5 @@
 -- Which fault of a text is the first. This project's own.
-use Rattle.std.specs.Prelude.{◌≡◌, ℕ, false, Some, List, slice_get}
+use Rattle.std.specs.Prelude.{◌≡◌, ℕ, false, Some, slice_get}
 use Rattle.std.specs.List.{Contains}
 use Rattle.hh_base.specs.declared.value.Pos.{Pos}
 use Rattle.module_tree.specs.declared.source.NameAt.{NameAt}

@@ -1,6 +1,5 @@
 -- What a table of names in scope shows: each name with the place of what it means, from the innermost
--- declaration outward.
--- (Block structure, as in Algol 60.)
+-- declaration outward. (Block structure, as in Algol 60.)
 use Rattle.std.specs.Prelude.{◌≡◌, ℕ, cond, Option, Some, None, List, [], ◌∷◌, map, reverse}
 use Rattle.std.specs.Str.{bytes_eq}
 use Rattle.std.specs.String.{string_bytes}

@@ -1,13 +1,10 @@
 -- What a name means at a place of a text: the first declaration of that name in the innermost list that has
--- one.
--- (Block structure, as in Algol 60.)
-use Rattle.std.specs.Prelude.{ℕ, ◌+◌, ◌&&◌, Bool, true, false, not, cond, Option, Some, None, is_some, List}
-use Rattle.std.specs.Prelude.{[], ◌∷◌, ◌++◌, map}
-use Rattle.std.specs.List.{find, list_any, filter}
+-- one. (Block structure, as in Algol 60.)
+use Rattle.std.specs.Prelude.{ℕ, ◌+◌, Bool, cond, Option, Some, None, List}
+use Rattle.std.specs.Prelude.{[], ◌∷◌}
+use Rattle.std.specs.List.{find, list_any}
 use Rattle.std.specs.Str.{bytes_eq}
-use Rattle.hh_base.specs.declared.value.Kind.{Kind}
 use Rattle.module_tree.specs.declared.source.ParameterNode.{ParameterNode}
-use Rattle.module_tree.specs.declared.source.SignalNode.{SignalNode}
 use Rattle.module_tree.specs.declared.source.InterfaceNode.{InterfaceNode}
 use Rattle.module_tree.specs.declared.source.ModuleNode.{ModuleNode}
 use Rattle.module_tree.specs.declared.source.Part.{Part}

@@ -1,7 +1,6 @@
 -- The tree of a text with each name that refers to something replaced by the place of what it means. A name
--- that means
--- nothing gets the place 0; no text without faults has one. This project's own.
-use Rattle.std.specs.Prelude.{ℕ, ◌+◌, cond, Option, Some, None, option_map, List, [], ◌∷◌, map, length}
+-- that means nothing gets the place 0; no text without faults has one. This project's own.
+use Rattle.std.specs.Prelude.{ℕ, ◌+◌, Option, Some, None, option_map, List, [], ◌∷◌, map, length}
 use Rattle.std.specs.List.{find}
 use Rattle.std.specs.Str.{bytes_eq}
 use Rattle.hh_base.specs.declared.value.Pos.{Pos}
@@ -31,7 +30,7 @@ use Rattle.module_tree.specs.declared.source.Part.{Part}
 use Rattle.module_tree.specs.declared.source.Part.TheVariants as top
 use Rattle.module_tree.specs.Scopes.{Signal, TrapName, InScope, Declared, interface_signals, with_signals}
 use Rattle.module_tree.specs.Scopes.{with_trap}
-use Rattle.module_tree.specs.Callables.{Signature, modules_of, signatures_of}
+use Rattle.module_tree.specs.Callables.{Signature, signatures_of}
 use Rattle.module_link.specs.Named.{Name, signal_named, trap_named, module_named, place_of}
 use Rattle.module_link.specs.Rows.{Program, interface_of, module_place}
 
@@ -99,8 +98,7 @@ resolved_async parts scope a =
     }
 
 -- ---- runs: one binding for each signal of the interface. One that is not written stands where the run
--- names the module, and
--- its right side is the signal of that name in scope.
+-- names the module, and its right side is the signal of that name in scope.
 
 abbrev pub binding_at : Pos → Pos → ℕ → ℕ → Binding ℕ
 binding_at left right callee caller = record {

@@ -1,31 +1,24 @@
 -- The faults of names, kinds and runs: for each kind of fault the positions at which a text has it. All
--- modules are
--- judged, also those that nobody runs. This project's own.
-use Rattle.std.specs.Prelude.{◌≡◌, ℕ, ◌==◌, ◌&&◌, ◌||◌, not, cond, Bool, true, false, Option, Some, None}
-use Rattle.std.specs.Prelude.{is_some, is_none, option_map, List, [], ◌∷◌, ◌++◌, map, length, filter}
-use Rattle.std.specs.Prelude.{slice_get}
-use Rattle.std.specs.List.{flat_map, filter_map, Contains}
-use Rattle.std.specs.Str.{bytes_eq}
-use Rattle.std.specs.Option.{option_and_then}
+-- modules are judged, also those that nobody runs. This project's own.
+use Rattle.std.specs.Prelude.{ℕ, ◌&&◌, ◌||◌, not, cond, Bool, false, Option, Some, None}
+use Rattle.std.specs.Prelude.{is_some, is_none, option_map, List, [], ◌∷◌, ◌++◌, map, filter}
+use Rattle.std.specs.List.{flat_map, filter_map}
 use Rattle.hh_base.specs.declared.value.Pos.{Pos}
 use Rattle.hh_base.specs.declared.value.Kind.{Kind}
 use Rattle.hh_base.specs.declared.value.Kind.TheVariants as kind
-use Rattle.hh_base.specs.declared.value.Dir.TheVariants as dir
 use Rattle.module_tree.specs.declared.source.NameAt.{NameAt}
 use Rattle.module_tree.specs.declared.source.ExprAt.{ExprAt}
 use Rattle.module_tree.specs.declared.source.SignalNode.{SignalNode}
 use Rattle.module_tree.specs.declared.source.InterfaceNode.{InterfaceNode}
 use Rattle.module_tree.specs.declared.source.ParameterNode.{ParameterNode}
 use Rattle.module_tree.specs.declared.source.Binding.{Binding}
-use Rattle.module_tree.specs.declared.source.BodyNode.{BodyNode}
 use Rattle.module_tree.specs.declared.source.AsyncNode.{AsyncNode}
 use Rattle.module_tree.specs.declared.source.ModuleNode.{ModuleNode}
 use Rattle.module_tree.specs.declared.source.Part.{Part}
 use Rattle.module_tree.specs.declared.source.Part.TheVariants as top
 use Rattle.module_tree.specs.Scopes.{Signal, InScope, interface_signals}
-use Rattle.module_tree.specs.Parts.{StatementPart, Test, Times, Emission, Locals, Exit, Call, Start, Placed}
+use Rattle.module_tree.specs.Parts.{StatementPart, Test, Emission, Locals, Exit, Call, Start, Placed}
 use Rattle.module_tree.specs.Parts.{parts_of, signals_read, parameters_read, signals_named, parameters_named}
-use Rattle.module_tree.specs.Parts.{expressions_of}
 use Rattle.module_tree.specs.Callables.{Signature, modules_of, signatures_of}
 use Rattle.module_tree.specs.LinkedFacts.{is_kind, sig_fits, is_input}
 use Rattle.module_link.specs.Named.{Name, signal_named, trap_named, module_named, signature_named}
@@ -48,8 +41,7 @@ abbrev pub here_if : Bool → Pos → List Pos
 here_if b p = cond b (p ∷ []) []
 
 -- ---- TwiceDeclared: a name stands twice among modules, among bodies and hosts, in one interface, in one
--- `signal` list, or
--- in one parameter list; at the second name
+-- `signal` list, or in one parameter list; at the second name
 
 abbrev pub repeated_behind : List Name → List (NameAt Name) → List Pos
 repeated_behind before [] = []
@@ -82,8 +74,7 @@ twice_declared parts =
     ++ flat_map repeated_in_part parts ++ in_parts repeated_in_statement parts
 
 -- ---- UnknownSignal: a name in an expression, emission, async result or right side of a binding is no
--- signal in scope, or
--- no parameter in a body; at the name
+-- signal in scope, or no parameter in a body; at the name
 
 abbrev pub unknown_in_statement : InScope → StatementPart Name → List Pos
 unknown_in_statement scope part = unknown_among (λ n. is_some (signal_named scope n)) (signals_named part)
@@ -98,8 +89,7 @@ abbrev pub unknown_signal : Program → List Pos
 unknown_signal parts = flat_map unknown_in_part parts ++ in_parts unknown_in_statement parts
 
 -- ---- UnknownModule, UnknownTrap, UnknownBody: what is named is not declared; a trap has to enclose its
--- break in the same
--- module; at the name
+-- break in the same module; at the name
 
 abbrev pub called : StatementPart Name → List (NameAt Name)
 called (Call callee bindings) = callee ∷ []
@@ -125,12 +115,9 @@ unknown_body parts = in_parts (λ scope part. unknown_among (λ n. is_some (sign
     (started part)) parts
 
 -- ---- KindWrong: the kinds within an expression do not fit; a place needs another kind; a pure signal is
--- emitted with a value
--- or a valued one without; a first value or combine word does not fit; the arguments or the result of an
--- async do not fit the
--- body; at the node that does not fit, else at the first token of the expression, else at the name, and for
--- a wrong number of
--- arguments at the body's name in the call
+-- emitted with a value or a valued one without; a first value or combine word does not fit; the arguments or
+-- the result of an async do not fit the body; at the node that does not fit, else at the first token of the
+-- expression, else at the name, and for a wrong number of arguments at the body's name in the call
 
 abbrev pub kinds_in : InScope → Kinds
 kinds_in scope n = option_map (λ (s : Signal). s.signal.kind) (signal_named scope n)
@@ -213,8 +200,7 @@ is_emitted None = false
 is_emitted (Some s) = not (is_input s.dir)
 
 -- ---- EmitsInput: an `in` signal is emitted, is an async result, or is bound to an `out` or `inout` of the
--- module that is run;
--- at the caller's name, or at the module name of the run where no binding is written
+-- module that is run; at the caller's name, or at the module name of the run where no binding is written
 
 abbrev pub emits : StatementPart Name → List (NameAt Name)
 emits (Emission n value) = n ∷ []
@@ -238,9 +224,8 @@ emits_input parts =
     n.pos) (emits part) ++ in_run (emitted_by_callee scope) parts part) parts
 
 -- ---- BadBinding: the left name is no interface signal of the module that is run or is bound twice; the
--- kinds differ; a signal
--- of that module has neither a binding nor a signal of its name in scope; at the left name, or at the
--- module name of the run
+-- kinds differ; a signal of that module has neither a binding nor a signal of its name in scope; at the left
+-- name, or at the module name of the run
 
 abbrev pub differ : Option Signal → Option Signal → Bool
 differ (Some s) (Some t) = not (is_kind s.signal.kind (Some t.signal.kind))

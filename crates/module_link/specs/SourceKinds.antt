@@ -1,7 +1,6 @@
--- The kinds of an expression as it is written. A name that means nothing has no kind, and no node over it
--- is judged.
--- This project's own.
-use Rattle.std.specs.Prelude.{ℕ, Bool, cond, Option, Some, None, List, [], ◌∷◌, ◌++◌}
+-- The kinds of an expression as it is written. A name that means nothing has no kind, and no node over it is
+-- judged. This project's own.
+use Rattle.std.specs.Prelude.{cond, Option, Some, None, List, [], ◌∷◌}
 use Rattle.hh_base.specs.declared.value.Pos.{Pos}
 use Rattle.hh_base.specs.declared.value.Kind.{Kind}
 use Rattle.hh_base.specs.declared.value.Kind.TheVariants as kind

@@ -1,6 +1,5 @@
 -- What an order of finishing says of cycles: a module that is the first in it of all that another module
--- reaches,
--- reaches that module.
+-- reaches, reaches that module.
 use Rattle.std.proofs.Common.{◌≡◌, ℕ, ◌⊎◌, true, false, List, [], ◌∷◌, refl, sym, ◌∙◌, subst, inl, inr}
 use Rattle.std.proofs.lemmas.Bool.{both_ways}
 use Rattle.module_tree.specs.Runs.{is_among}

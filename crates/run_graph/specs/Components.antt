@@ -1,6 +1,5 @@
 -- The components of the graph of runs: two modules that reach each other have one root. (Strongly connected
--- components,
--- Tarjan, 1972.)
+-- components, Tarjan, 1972.)
 use Rattle.std.specs.Prelude.{◌≡◌, ℕ, ◌⊎◌, ◌↔◌, true, Option, Some, List, [], ◌∷◌, length}
 use Rattle.module_tree.specs.Runs.{is_among}
 use Rattle.run_graph.specs.Reach.{Runs, Reaches}

@@ -1,6 +1,5 @@
 -- What a depth-first search over the runs of modules keeps. (Tarjan, 1972; its order of finishing as in
--- Kosaraju's
--- algorithm: Sharir, A strong-connectivity algorithm, 1981.)
+-- Kosaraju's algorithm: Sharir, A strong-connectivity algorithm, 1981.)
 use Rattle.std.specs.Prelude.{◌≡◌, ℕ, ◌<◌, ◌||◌, ◌⊎◌, Bool, true, false, Some, List, [], ◌∷◌, map, length}
 use Rattle.std.specs.Prelude.{slice_get, slice_index_or}
 use Rattle.run_graph.specs.declared.search.Frame.{Frame}
@@ -8,8 +7,7 @@ use Rattle.module_tree.specs.Runs.{is_among}
 use Rattle.run_graph.specs.Reach.{callees, Runs, Reaches}
 
 -- The modules of an order in which a search finishes them, the last first. Of the runs of those that are
--- finished, each
--- leads to one that was finished before `w`, or to one that reaches `w`.
+-- finished, each leads to one that was finished before `w`, or to one that reaches `w`.
 abbrev pub IsFinishOrder : List (List ℕ) → List ℕ → Type 0
 IsFinishOrder runs [] = Unit {0}
 IsFinishOrder runs (w ∷ ws) =

@@ -1,4 +1,4 @@
-use Rattle.std.proofs.Common.{◌≡◌, ◌+◌, ◌-◌, ◌≤◌, ◌++◌, length, map, drop}
+use Rattle.std.proofs.Common.{◌≡◌, ◌+◌, ◌-◌, ◌++◌, length, map, drop}
 use Rattle.module_tree.specs.Scopes.{local_signals}
 use Rattle.module_link.specs.InnermostFirst.{IsScope, in_scope, shown}
 use Rattle.module_link.proofs.scope.Scope.enter_signals.Given as goal

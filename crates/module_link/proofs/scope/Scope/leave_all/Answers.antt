@@ -1,4 +1,4 @@
-use Rattle.std.proofs.Common.{◌≡◌, ◌+◌, drop, ◌∙◌, ap}
+use Rattle.std.proofs.Common.{drop, ◌∙◌, ap}
 use Rattle.std.proofs.lemmas.List.{drop-drop}
 use Rattle.module_link.specs.InnermostFirst.{in_scope, Named}
 use Rattle.module_link.proofs.scope.Scope.leave_all.Goals as goal
