@@ -1,0 +1,7 @@
+//! The expansion of linked module texts to the kernel.
+#![tactic(auto)]
+
+pub mod sizes;
+mod measure;
+mod rows;
+mod weights;
