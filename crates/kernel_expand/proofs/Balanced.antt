@@ -1,5 +1,5 @@
 -- A list as a balanced tree: by its halves, and where all its items are the same.
-use Rattle.std.proofs.Common.{◌≡◌, ℕ, zero, suc, ◌+◌, ◌-◌, ◌/◌, ◌<◌, ◌≤◌, List, [], ◌∷◌, ◌++◌, length, take, drop, map, replicate, subst, sym, ap, ◌∙◌, refl, arith}
+use Rattle.std.proofs.Common.{◌≡◌, ℕ, zero, suc, ◌+◌, ◌-◌, ◌/◌, ◌<◌, ◌≤◌, List, [], ◌∷◌, ◌++◌, length, take, drop, get_or, replicate, subst, sym, ap, ◌∙◌, refl, arith}
 use Rattle.std.proofs.lemmas.List.{length-take, length-drop, length-replicate, take-replicate, replicate-append-replicate, drop_at}
 use Rattle.kernel_expand.specs.Halves.{halved, in_halves}
 
@@ -39,9 +39,19 @@ unfolding halved
 no_item f e [] is = refl
 no_item f e (x ∷ xs) is = absurd (let no : ⊥ = omega arith in no)
 
+pub only_item : {X : Type 0} (f : X → X → X) (e d : X) (xs : List X) → length xs ≡ 1 → in_halves f e xs ≡ get_or xs 0 d
+unfolding halved
+only_item f e d [] is = absurd (let no : ⊥ = omega arith in no)
+only_item f e d (x ∷ []) is = refl
+only_item f e d (x ∷ y ∷ zs) is = absurd (let no : ⊥ = omega arith in no)
+
 pub one_item : {X : Type 0} (f : X → X → X) (e x : X) → in_halves f e (x ∷ []) ≡ x
 unfolding halved
 one_item f e x = refl
+
+pub three_items : {X : Type 0} (f : X → X → X) (e x y z : X) → in_halves f e (x ∷ y ∷ z ∷ []) ≡ f (f x y) z
+unfolding halved
+three_items f e x y z = refl
 
 drop_same : {X : Type 0} (m n : ℕ) (x : X) → m ≤ n → drop m (replicate n x) ≡ replicate (n - m) x
 drop_same m n x le =

@@ -1,2 +1,4 @@
 pub mod SameSizes
 pub mod Balanced
+pub mod Nested
+pub mod Mapped

@@ -1,8 +1,8 @@
 //! Measuring the statements of a module, given the sizes of the modules that it runs.
 
-ghost use Rattle.std.specs.Prelude.{◌≡◌, IfOk, map, option_map};
+ghost use Rattle.std.specs.Prelude.{◌≡◌, IfOk, map};
 ghost use Rattle.hh_base.specs.declared.value.Pos.{Pos as APos};
-ghost use Rattle.kernel_expand.specs.Interpretation.{test_of, otherwise, locals, of_statement, of_node, of_block};
+ghost use Rattle.kernel_expand.specs.Interpretation.{locals, of_statement, of_node, of_block};
 ghost use Rattle.kernel_expand.specs.Measures.{sizes, measure, known};
 ghost use Rattle.kernel_expand.specs.Rows as row;
 
@@ -10,7 +10,7 @@ use crate::rows;
 use crate::sizes::Sizes;
 use crate::weights;
 use hh_base::memory::NoMemory;
-use module_tree::source::{BlockNode, ExprAt, SigNode, Statement, StatementNode};
+use module_tree::source::{BlockNode, SigNode, Statement, StatementNode};
 use std::alloc::Global;
 
 /// Statements in a sequence, or branches of a parallel, by their halves.
@@ -50,24 +50,6 @@ fn module_at(modules: &[Sizes], place: u32) -> Sizes
 }
 
 #[cycle(measure)]
-fn of_choice(
-    alloc: Global,
-    test: &ExprAt<u32>,
-    then: &BlockNode<u32>,
-    other: &Option<BlockNode<u32>>,
-    modules: &[Sizes],
-) -> Result<Sizes, NoMemory>
-    ensures { IfOk result (λ s. s ≡ sizes.choice (test_of test.now) (of_block (measure (known modules.now)) then.now) (otherwise sizes (option_map (of_block (measure (known modules.now))) other.now))) }
-{
-    let then = of_block(alloc, then, modules)?;
-    let other = match other {
-        None => Sizes::leaf(0),
-        Some(other) => of_block(alloc, other, modules)?,
-    };
-    Ok(then.both(other, weights::of_test(test)))
-}
-
-#[cycle(measure)]
 fn of_branches(
     alloc: Global,
     blocks: &[BlockNode<u32>],
@@ -95,7 +77,15 @@ fn of_statement(
         Statement::Halt => rows::halt(),
         Statement::Emit(_, value) => Sizes::leaf(weights::of_value(value)),
         Statement::Sustain(_, value) => rows::sustain(value),
-        Statement::If(test, then, other) => of_choice(alloc, test, then, other, modules)?,
+        Statement::If(test, then, None) => {
+            let then = of_block(alloc, then, modules)?;
+            then.both(Sizes::leaf(0), weights::of_test(test))
+        }
+        Statement::If(test, then, Some(other)) => {
+            let then = of_block(alloc, then, modules)?;
+            let other = of_block(alloc, other, modules)?;
+            then.both(other, weights::of_test(test))
+        }
         Statement::Loop(block) => of_block(alloc, block, modules)?.looped(),
         Statement::Fork(blocks) => of_branches(alloc, blocks.as_slice(), modules)?,
         Statement::Block(block) => of_block(alloc, block, modules)?,

@@ -1,6 +1,6 @@
 //! The sizes of derived statements, each by its row.
 
-ghost use Rattle.std.specs.Prelude.{◌≡◌, ℕ, replicate};
+ghost use Rattle.std.specs.Prelude.{◌≡◌, replicate};
 ghost use Rattle.kernel_expand.specs.Interpretation.{test_of, value_of};
 ghost use Rattle.kernel_expand.specs.Interpretation as tree;
 ghost use Rattle.kernel_expand.specs.Measures.{sizes};
@@ -22,8 +22,9 @@ pub fn halt() -> Sizes
     Sizes::leaf(0).looped()
 }
 
+// Which signal it is does not count.
 pub fn sustain(value: &Option<ExprAt<u32>>) -> Sizes
-    ensures { (s : ℕ) → result ≡ row.sustain sizes s (value_of value.now) }
+    ensures { result ≡ row.sustain sizes 0 (value_of value.now) }
 {
     let emission = Sizes::leaf(weights::of_value(value));
     emission.both(Sizes::leaf(0), 0).looped()
