@@ -4,3 +4,8 @@ pub mod Nested
 pub mod Mapped
 pub mod Alike
 pub mod AlikeTrees
+pub mod Counting
+pub mod Depths
+pub mod SameRuns
+pub mod Progress
+pub mod Listing

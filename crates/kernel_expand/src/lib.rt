@@ -2,6 +2,7 @@
 #![tactic(auto)]
 
 pub mod sizes;
-mod measure;
+mod blocks;
+pub mod measure;
 mod rows;
 mod weights;

@@ -2,7 +2,7 @@ use Rattle.std.proofs.Common.{arith}
 use Rattle.kernel_expand.specs.Interpretation.{of_block}
 use Rattle.kernel_expand.specs.Measures.{measure, known}
 use Rattle.kernel_expand.proofs.Mapped.{one_more}
-use Rattle.kernel_expand.proofs.measure.+measure.Goals as goal
+use Rattle.kernel_expand.proofs.blocks.+block.Goals as goal
 
 pub of_branches-loop-block-preserved : goal.of_branches-loop-block-preserved
 of_branches-loop-block-preserved t c =

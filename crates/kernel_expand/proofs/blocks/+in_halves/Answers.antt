@@ -3,7 +3,7 @@ use Rattle.kernel_expand.specs.declared.sizes.Sizes.{Sizes}
 use Rattle.kernel_expand.specs.Halves.{in_halves}
 use Rattle.kernel_expand.specs.Measures.{leaf, both}
 use Rattle.kernel_expand.proofs.Balanced.{no_item, only_item, two_halves}
-use Rattle.kernel_expand.proofs.measure.+in_halves.Goals as goal
+use Rattle.kernel_expand.proofs.blocks.+in_halves.Goals as goal
 
 abbrev whole : List Sizes → Sizes
 whole = in_halves (both 0) (leaf 0 0)

@@ -3,7 +3,7 @@ use Rattle.module_tree.specs.declared.source.SigNode.{SigNode}
 use Rattle.kernel_expand.specs.Interpretation.{locals}
 use Rattle.kernel_expand.specs.Measures.{sizes, around}
 use Rattle.kernel_expand.proofs.Nested.{last_inmost}
-use Rattle.kernel_expand.proofs.measure.declared.Goals as goal
+use Rattle.kernel_expand.proofs.blocks.declared.Goals as goal
 
 pub inward-preserved : goal.inward-preserved
 inward-preserved c =
