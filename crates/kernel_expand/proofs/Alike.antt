@@ -2,14 +2,14 @@
 use Rattle.std.proofs.Common.{◌≡◌, ℕ, zero, suc, ◌+◌, ◌/◌, ◌≤◌, Bool, true, false, List, [], ◌∷◌, ◌++◌, length, map, take, drop, replicate, Option, Some, None, refl, sym, ap, subst, ◌∙◌, arith}
 use Rattle.std.specs.List.{AllZip}
 use Rattle.hh_base.specs.declared.value.Pos.{Pos}
-use Rattle.host_expr.specs.Expression.{Expression}
+use Rattle.host_expr.specs.declared.expr.Expr.{Expr}
 use Rattle.module_tree.specs.declared.source.SigNode.{SigNode}
 use Rattle.module_tree.specs.declared.source.Binding.{Binding}
 use Rattle.module_tree.specs.declared.source.Plain.{Plain}
 use Rattle.module_tree.specs.declared.source.Plain.TheVariants as plain
 use Rattle.module_tree.specs.declared.source.Delay.{Delay}
 use Rattle.module_tree.specs.declared.source.Delay.TheVariants as delay
-use Rattle.hh_term.specs.Kernel.{AsyncSite}
+use Rattle.module_tree.specs.declared.source.AsyncNode.{AsyncNode}
 use Rattle.kernel_expand.specs.Operations.{Operations}
 use Rattle.kernel_expand.specs.Halves.{halved, in_halves}
 use Rattle.kernel_expand.specs.Rows as row
@@ -20,14 +20,14 @@ use Rattle.kernel_expand.specs.Interpretation.{test_of}
 pub record Alike {X Y : Type 0} (R : X → Y → Type 0) (k : Operations X) (l : Operations Y) : Type 0 where
   pub nothing : R k.nothing l.nothing
   pub pause : R k.pause l.pause
-  pub emit : (s : ℕ) (e : Option Expression) → R (k.emit s e) (l.emit s e)
-  pub choice : (d : Expression) (p : X) (p' : Y) (q : X) (q' : Y) → R p p' → R q q' → R (k.choice d p q) (l.choice d p' q')
-  pub suspend : (d : Expression) (p : X) (p' : Y) → R p p' → R (k.suspend d p) (l.suspend d p')
+  pub emit : (s : ℕ) (e : Option (Expr ℕ)) → R (k.emit s e) (l.emit s e)
+  pub choice : (d : Expr ℕ) (p : X) (p' : Y) (q : X) (q' : Y) → R p p' → R q q' → R (k.choice d p q) (l.choice d p' q')
+  pub suspend : (d : Expr ℕ) (p : X) (p' : Y) → R p p' → R (k.suspend d p) (l.suspend d p')
   pub seq : (p : X) (p' : Y) (q : X) (q' : Y) → R p p' → R q q' → R (k.seq p q) (l.seq p' q')
   pub par : (p : X) (p' : Y) (q : X) (q' : Y) → R p p' → R q q' → R (k.par p q) (l.par p' q')
   pub loop : (p : X) (p' : Y) → R p p' → R (k.loop p) (l.loop p')
   pub local : (d : SigNode) (p : X) (p' : Y) → R p p' → R (k.local d p) (l.local d p')
-  pub async : (a : AsyncSite) → R (k.async a) (l.async a)
+  pub async : (a : AsyncNode ℕ) → R (k.async a) (l.async a)
   pub trap : (p : X) (p' : Y) → R p p' → R (k.trap p) (l.trap p')
   pub exit : R k.exit l.exit
   pub named_trap : (p : X) (p' : Y) → R p p' → R (k.named_trap p) (l.named_trap p')
@@ -94,19 +94,19 @@ module _ {X Y : Type 0} (R : X → Y → Type 0) (k : Operations X) (l : Operati
   pub halt : R (row.halt k) (row.halt l)
   halt = a.loop _ _ a.pause
 
-  exits : (d : Expression) → R (k.choice d k.exit k.nothing) (l.choice d l.exit l.nothing)
+  exits : (d : Expr ℕ) → R (k.choice d k.exit k.nothing) (l.choice d l.exit l.nothing)
   exits d = a.choice d _ _ _ _ a.exit a.nothing
 
-  waiting : (d : Expression) → R (row.waiting k d) (row.waiting l d)
+  waiting : (d : Expr ℕ) → R (row.waiting k d) (row.waiting l d)
   waiting d = a.loop _ _ (a.seq _ _ _ _ a.pause (exits d))
 
-  waiting_now : (d : Expression) → R (row.waiting_now k d) (row.waiting_now l d)
+  waiting_now : (d : Expr ℕ) → R (row.waiting_now k d) (row.waiting_now l d)
   waiting_now d = a.loop _ _ (a.seq _ _ _ _ (exits d) a.pause)
 
-  await_once : (d : Expression) → R (row.await k d) (row.await l d)
+  await_once : (d : Expr ℕ) → R (row.await k d) (row.await l d)
   await_once d = a.trap _ _ (waiting d)
 
-  await_count : (n : ℕ) (d : Expression) → R (row.await_count k n d) (row.await_count l n d)
+  await_count : (n : ℕ) (d : Expr ℕ) → R (row.await_count k n d) (row.await_count l n d)
   await_count n d = listed _ _ (copies n _ _ (await_once d))
 
   pub await : (d : Delay ℕ) → R (tree.await k d) (tree.await l d)
@@ -114,10 +114,10 @@ module _ {X Y : Type 0} (R : X → Y → Type 0) (k : Operations X) (l : Operati
   await (delay.Plain (plain.Count n x)) = await_count n (test_of x)
   await (delay.Immediate x) = a.trap _ _ (waiting_now (test_of x))
 
-  abort_once : (d : Expression) (p : X) (p' : Y) → R p p' → R (row.abort k d p) (row.abort l d p')
+  abort_once : (d : Expr ℕ) (p : X) (p' : Y) → R p p' → R (row.abort k d p) (row.abort l d p')
   abort_once d p p' r = a.trap _ _ (a.par _ _ _ _ (a.seq _ _ _ _ (a.suspend d _ _ r) a.exit) (waiting d))
 
-  abort_count : (n : ℕ) (d : Expression) (p : X) (p' : Y) → R p p' → R (row.abort_count k n d p) (row.abort_count l n d p')
+  abort_count : (n : ℕ) (d : Expr ℕ) (p : X) (p' : Y) → R p p' → R (row.abort_count k n d p) (row.abort_count l n d p')
   abort_count n d p p' r =
       a.trap _ _ (a.counter _ _ (a.par _ _ _ _ (a.seq _ _ _ _ (a.suspend_counted _ _ r) a.exit) (listed (row.await_count k n d ∷ k.emit_counter ∷ k.exit ∷ []) (row.await_count l n d ∷ l.emit_counter ∷ l.exit ∷ []) (await_count n d, (a.emit_counter, (a.exit, tt))))))
 
@@ -134,17 +134,17 @@ module _ {X Y : Type 0} (R : X → Y → Type 0) (k : Operations X) (l : Operati
   weak_abort (delay.Plain (plain.Count n x)) p p' r = beside _ _ _ _ r (a.seq _ _ _ _ (await_count n (test_of x)) a.exit)
   weak_abort (delay.Immediate x) p p' r = beside _ _ _ _ r (waiting_now (test_of x))
 
-  pub suspend : (immediate : Bool) (d : Expression) (p : X) (p' : Y) → R p p' → R (tree.suspend k immediate d p) (tree.suspend l immediate d p')
+  pub suspend : (immediate : Bool) (d : Expr ℕ) (p : X) (p' : Y) → R p p' → R (tree.suspend k immediate d p) (tree.suspend l immediate d p')
   suspend false d p p' r = a.suspend d _ _ r
   suspend true d p p' r = a.suspend d _ _ (a.seq _ _ _ _ (a.choice d _ _ _ _ a.pause a.nothing) r)
 
   halted : (p : X) (p' : Y) → R p p' → R (k.seq p (row.halt k)) (l.seq p' (row.halt l))
   halted p p' r = a.seq _ _ _ _ r halt
 
-  do_once : (d : Expression) (p : X) (p' : Y) → R p p' → R (row.do_every k d p) (row.do_every l d p')
+  do_once : (d : Expr ℕ) (p : X) (p' : Y) → R p p' → R (row.do_every k d p) (row.do_every l d p')
   do_once d p p' r = a.loop _ _ (abort_once d _ _ (halted p p' r))
 
-  do_count : (n : ℕ) (d : Expression) (p : X) (p' : Y) → R p p' → R (row.do_every_count k n d p) (row.do_every_count l n d p')
+  do_count : (n : ℕ) (d : Expr ℕ) (p : X) (p' : Y) → R p p' → R (row.do_every_count k n d p) (row.do_every_count l n d p')
   do_count n d p p' r = a.loop _ _ (abort_count n d _ _ (halted p p' r))
 
   pub do_every : (d : Plain ℕ) (p : X) (p' : Y) → R p p' → R (tree.do_every k d p) (tree.do_every l d p')
@@ -160,5 +160,5 @@ module _ {X Y : Type 0} (R : X → Y → Type 0) (k : Operations X) (l : Operati
   locals [] p p' r = r
   locals (d ∷ ds) p p' r = a.local d _ _ (locals ds p p' r)
 
-  pub sustain : (s : ℕ) (e : Option Expression) → R (row.sustain k s e) (row.sustain l s e)
+  pub sustain : (s : ℕ) (e : Option (Expr ℕ)) → R (row.sustain k s e) (row.sustain l s e)
   sustain s e = a.loop _ _ (a.seq _ _ _ _ (a.emit s e) a.pause)

@@ -19,7 +19,7 @@ use Rattle.module_tree.specs.Runs.{callee_of}
 use Rattle.kernel_expand.specs.Operations.{Operations}
 use Rattle.kernel_expand.specs.Rows as row
 use Rattle.kernel_expand.specs.Interpretation as tree
-use Rattle.kernel_expand.specs.Interpretation.{Kernel, of_statement, of_node, of_block, test_of, value_of, site_of}
+use Rattle.kernel_expand.specs.Interpretation.{Kernel, of_statement, of_node, of_block, test_of, value_of}
 use Rattle.kernel_expand.proofs.Alike as alike
 use Rattle.kernel_expand.proofs.Alike.{Alike}
 
@@ -148,7 +148,7 @@ module _ {X Y : Type 0} (R : X → Y → Type 0) (k : Kernel X) (l : Kernel Y) (
   statement_alike (s.Trap n p) = by_layer (s.Trap n p.0) (λ pos scope before h. (operations pos).named_trap _ _ (p.1 _ _ h))
   statement_alike (s.Break n) = by_layer (s.Break n) (λ pos scope before h. (operations pos).leave n.name)
   statement_alike (s.Run n bindings) = by_layer (s.Run n bindings) (λ pos scope before h. runs pos n.name bindings h.0)
-  statement_alike (s.Async a) = by_layer (s.Async a) (λ pos scope before h. (operations pos).async (site_of a))
+  statement_alike (s.Async a) = by_layer (s.Async a) (λ pos scope before h. (operations pos).async a)
 
   block_alike : (y : s.BlockNode-F ℕ What Block Node) → IsAlikeBlock (roll-BlockNode ℕ (map-BlockNode ℕ What Block Node (Statement ℕ) (BlockNode ℕ) (StatementNode ℕ) (λ n. n.0) (λ n. n.0) (λ n. n.0) y))
   block_alike y scope before h =

@@ -1,5 +1,6 @@
 -- The sizes of a block by those of the modules that it runs.
 use Rattle.std.proofs.Common.{◌≡◌, ℕ, refl, ap}
+use Rattle.host_expr.specs.Expression.{expression_of}
 use Rattle.host_expr.specs.Measures.{size_of_expression}
 use Rattle.kernel_expand.specs.declared.sizes.Sizes.{Sizes}
 use Rattle.kernel_expand.specs.Measures.{counted, around, both, looped, trapped, blocks_of_first, sizes_given, measure}
@@ -14,8 +15,8 @@ same_operations f g =
       nothing = refl;
       pause = refl;
       emit = λ s e. refl;
-      choice = λ d p p' q q' r s i. both (counted (size_of_expression d)) (r i) (s i);
-      suspend = λ d p p' r. ap (around (counted (size_of_expression d))) r;
+      choice = λ d p p' q q' r s i. both (counted (size_of_expression (expression_of d))) (r i) (s i);
+      suspend = λ d p p' r. ap (around (counted (size_of_expression (expression_of d)))) r;
       seq = λ p p' q q' r s i. both 0 (r i) (s i);
       par = λ p p' q q' r s i. both 0 (r i) (s i);
       loop = λ p p' r. ap looped r;

@@ -1,10 +1,9 @@
 -- The expansion as a recursion over the linked tree: what a statement means, given what the kernel statements mean at each
 -- position. A node that a row makes stands at the position of the derived statement, one that joins the statements of a block at
 -- that of the block. (This project's own.)
-use Rattle.std.specs.Prelude.{ℕ, Bool, true, false, Option, Some, None, List, [], ◌∷◌, map, option_map}
+use Rattle.std.specs.Prelude.{ℕ, Bool, true, false, Option, Some, None, List, [], ◌∷◌, map}
 use Rattle.hh_base.specs.declared.value.Pos.{Pos}
 use Rattle.host_expr.specs.declared.expr.Expr.{Expr}
-use Rattle.host_expr.specs.Expression.{Expression, expression_of, optional_expression}
 use Rattle.module_tree.specs.declared.source.NameAt.{NameAt}
 use Rattle.module_tree.specs.declared.source.ExprAt.{ExprAt}
 use Rattle.module_tree.specs.declared.source.SigNode.{SigNode}
@@ -18,25 +17,15 @@ use Rattle.module_tree.specs.declared.source.Plain.{Plain}
 use Rattle.module_tree.specs.declared.source.Plain.TheVariants as plain
 use Rattle.module_tree.specs.declared.source.Delay.{Delay}
 use Rattle.module_tree.specs.declared.source.Delay.TheVariants as delay
-use Rattle.hh_term.specs.Kernel.{AsyncSite}
 use Rattle.kernel_expand.specs.Operations.{Operations}
 use Rattle.kernel_expand.specs.Rows as row
 
-abbrev pub test_of : ExprAt ℕ → Expression
-test_of x = expression_of x.expr
+abbrev pub test_of : ExprAt ℕ → Expr ℕ
+test_of x = x.expr
 
-abbrev pub value_of : Option (ExprAt ℕ) → Option Expression
+abbrev pub value_of : Option (ExprAt ℕ) → Option (Expr ℕ)
 value_of None = None
 value_of (Some x) = Some (test_of x)
-
--- the site of an async of the text, which names signals by their places
-abbrev pub place_named : Option (NameAt ℕ) → Option ℕ
-place_named None = None
-place_named (Some n) = Some n.name
-
-abbrev pub site_of : AsyncNode ℕ → AsyncSite
-site_of a =
-    record { body = a.body.name; signal = place_named a.signal; args = map test_of a.args; kill = a.kill; suspend = a.suspend; resume = a.resume }
 
 -- the first signal outermost
 abbrev pub locals : {X : Type 0} → Operations X → List SigNode → X → X
@@ -63,7 +52,7 @@ weak_abort k (delay.Plain (plain.Once x)) p = row.weak_abort k (test_of x) p
 weak_abort k (delay.Plain (plain.Count n x)) p = row.weak_abort_count k n (test_of x) p
 weak_abort k (delay.Immediate x) p = row.weak_abort_immediate k (test_of x) p
 
-abbrev pub suspend : {X : Type 0} → Operations X → Bool → Expression → X → X
+abbrev pub suspend : {X : Type 0} → Operations X → Bool → Expr ℕ → X → X
 suspend k false d p = k.suspend d p
 suspend k true d p = row.suspend_immediate k d p
 
@@ -97,7 +86,7 @@ statement_means k (s.Signal sigs p) = locals k sigs p
 statement_means k (s.Trap n p) = k.named_trap p
 statement_means k (s.Break n) = k.leave n.name
 statement_means k (s.Run n bindings) = k.run n.name bindings
-statement_means k (s.Async a) = k.async (site_of a)
+statement_means k (s.Async a) = k.async a
 
 -- the operations at each position
 abbrev pub Kernel : Type 0 → Type 0

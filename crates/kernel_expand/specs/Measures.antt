@@ -1,13 +1,14 @@
 -- The counted sizes of an expansion, measured on the linked tree without writing the expansion out: the kernel's operations as
 -- operations on sizes. Numbers stop at the greatest of 64 bits. (This project's own.)
-use Rattle.std.specs.Prelude.{ℕ, ◌+◌, ◌*◌, min, max, Option, Some, None, List, length, slice_index_or}
+use Rattle.std.specs.Prelude.{ℕ, ◌+◌, ◌*◌, min, max, Option, Some, None, List, length, slice_index_or, sum_by}
 use Rattle.hh_base.specs.declared.value.Value.{Value}
-use Rattle.host_expr.specs.Expression.{Expression}
+use Rattle.host_expr.specs.Expression.{expression_of, optional_expression}
 use Rattle.host_expr.specs.Measures.{size_of_expression}
 use Rattle.module_tree.specs.declared.source.SigNode.{SigNode}
 use Rattle.module_tree.specs.declared.source.ModuleNode.{ModuleNode}
-use Rattle.hh_term.specs.Kernel.{AsyncSite}
-use Rattle.hh_term.specs.Sizes.{size_of_optional, value_blocks, size_of_site}
+use Rattle.module_tree.specs.declared.source.ExprAt.{ExprAt}
+use Rattle.module_tree.specs.declared.source.AsyncNode.{AsyncNode}
+use Rattle.hh_term.specs.Sizes.{size_of_optional, value_blocks, handler_blocks}
 use Rattle.kernel_expand.specs.declared.sizes.Sizes.{Sizes}
 use Rattle.kernel_expand.specs.Operations.{Operations}
 use Rattle.kernel_expand.specs.Interpretation.{Kernel}
@@ -50,20 +51,24 @@ abbrev pub blocks_of_first : Option Value → ℕ
 blocks_of_first None = 0
 blocks_of_first (Some v) = value_blocks v
 
+-- the arguments and the handlers of an async
+abbrev pub weight_of_async : AsyncNode ℕ → ℕ
+weight_of_async a = sum_by (λ (x : ExprAt ℕ). size_of_expression (expression_of x.expr)) a.args + handler_blocks a.kill + handler_blocks a.suspend + handler_blocks a.resume
+
 -- `run` counts as the body of its module
 abbrev pub sizes_given : (ℕ → Sizes) → Operations Sizes
 sizes_given modules =
     record {
       nothing = leaf 0 0;
       pause = leaf 0 0;
-      emit = λ s e. leaf 0 (counted (size_of_optional e));
-      choice = λ e p q. both (counted (size_of_expression e)) p q;
-      suspend = λ e p. around (counted (size_of_expression e)) p;
+      emit = λ s e. leaf 0 (counted (size_of_optional (optional_expression e)));
+      choice = λ e p q. both (counted (size_of_expression (expression_of e))) p q;
+      suspend = λ e p. around (counted (size_of_expression (expression_of e))) p;
       seq = both 0;
       par = both 0;
       loop = looped;
       local = λ d p. around (blocks_of_first d.first) p;
-      async = λ a. leaf 1 (counted (size_of_site (Some a)));
+      async = λ a. leaf 1 (counted (weight_of_async a));
       trap = trapped;
       exit = leaf 0 0;
       named_trap = trapped;

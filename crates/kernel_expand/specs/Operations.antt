@@ -1,23 +1,23 @@
 -- The kernel statements as operations on meanings of any kind, so that one table of the derived statements says both what they
 -- expand to and how large that is. (Berry's kernel, The Constructive Semantics of Pure Esterel, and async, after HipHop.js.)
 use Rattle.std.specs.Prelude.{ℕ, Option, List}
-use Rattle.host_expr.specs.Expression.{Expression}
+use Rattle.host_expr.specs.declared.expr.Expr.{Expr}
 use Rattle.module_tree.specs.declared.source.SigNode.{SigNode}
 use Rattle.module_tree.specs.declared.source.Binding.{Binding}
-use Rattle.hh_term.specs.Kernel.{AsyncSite}
+use Rattle.module_tree.specs.declared.source.AsyncNode.{AsyncNode}
 
 -- signals, traps and modules go by their places in the linked text
 pub record Operations (X : Type 0) : Type 0 where
   pub nothing : X
   pub pause : X
-  pub emit : ℕ → Option Expression → X
-  pub choice : Expression → X → X → X
-  pub suspend : Expression → X → X
+  pub emit : ℕ → Option (Expr ℕ) → X
+  pub choice : Expr ℕ → X → X → X
+  pub suspend : Expr ℕ → X → X
   pub seq : X → X → X
   pub par : X → X → X
   pub loop : X → X
   pub local : SigNode → X → X
-  pub async : AsyncSite → X
+  pub async : AsyncNode ℕ → X
   -- a trap that a row makes, and the exit of the innermost trap
   pub trap : X → X
   pub exit : X

@@ -1,11 +1,12 @@
 //! How much the expressions and texts of a statement count.
 
-ghost use Rattle.std.specs.Prelude.{◌≡◌, ◌+◌, Some, map, sum_by};
-ghost use Rattle.host_expr.specs.Expression.{expression_of};
+ghost use Rattle.std.specs.Prelude.{◌≡◌, ℕ, sum_by};
+ghost use Rattle.host_expr.specs.Expression.{expression_of, optional_expression};
 ghost use Rattle.host_expr.specs.Measures.{size_of_expression, text_blocks};
-ghost use Rattle.hh_term.specs.Sizes.{size_of_optional, size_of_site, handler_blocks};
-ghost use Rattle.kernel_expand.specs.Interpretation.{test_of, value_of, site_of};
-ghost use Rattle.kernel_expand.specs.Measures.{counted, blocks_of_first};
+ghost use Rattle.hh_term.specs.Sizes.{size_of_optional, handler_blocks};
+ghost use Rattle.module_tree.specs.declared.source.ExprAt.{ExprAt as AExprAt};
+ghost use Rattle.kernel_expand.specs.Interpretation.{value_of};
+ghost use Rattle.kernel_expand.specs.Measures.{counted, blocks_of_first, weight_of_async};
 
 use hh_base::text::Text;
 use hh_base::value::Value;
@@ -48,14 +49,14 @@ fn of_part(part: &Boxed<Expr<u32>>) -> u64
 
 /// One for each leaf and operator of a test, and one more for each 64 bytes of a literal text begun.
 pub fn of_test(test: &ExprAt<u32>) -> u64
-    ensures { result ≡ counted (size_of_expression (test_of test.now)) }
+    ensures { result ≡ counted (size_of_expression (expression_of test.now.expr)) }
 {
     of_expression(&test.expr)
 }
 
 /// The same of what is emitted, and 0 where nothing is.
 pub fn of_value(value: &Option<ExprAt<u32>>) -> u64
-    ensures { result ≡ counted (size_of_optional (value_of value.now)) }
+    ensures { result ≡ counted (size_of_optional (optional_expression (value_of value.now))) }
 {
     match value {
         None => 0,
@@ -83,7 +84,7 @@ fn of_handler(handler: &Option<Text>) -> u64
 }
 
 fn of_arguments(arguments: &[ExprAt<u32>]) -> u64
-    ensures { result ≡ counted (sum_by size_of_expression (map test_of arguments.now)) }
+    ensures { result ≡ counted (sum_by (λ (x : AExprAt ℕ). size_of_expression (expression_of x.expr)) arguments.now) }
 {
     let mut weight: u64 = 0;
     for argument in arguments {
@@ -94,7 +95,7 @@ fn of_arguments(arguments: &[ExprAt<u32>]) -> u64
 
 /// What the arguments and the handlers of an async site count.
 pub fn of_site(node: &AsyncNode<u32>) -> u64
-    ensures { result ≡ counted (size_of_site (Some (site_of node.now))) }
+    ensures { result ≡ counted (weight_of_async node.now) }
 {
     of_arguments(node.args.as_slice())
         .saturating_add(of_handler(&node.kill))
