@@ -9,3 +9,5 @@ pub mod Depths
 pub mod SameRuns
 pub mod Progress
 pub mod Listing
+pub mod RenamedSizes
+pub mod Weighing

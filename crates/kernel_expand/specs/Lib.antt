@@ -4,3 +4,7 @@ pub mod Rows
 pub mod Interpretation
 pub mod Modules
 pub mod Measures
+pub mod Renaming
+pub mod Numbering
+pub mod Expansion
+pub mod Weighed
