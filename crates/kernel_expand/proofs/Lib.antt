@@ -11,3 +11,5 @@ pub mod Progress
 pub mod Listing
 pub mod RenamedSizes
 pub mod Weighing
+pub mod Measured
+mod Expansions

@@ -61,29 +61,29 @@ HasSizes p s = (a : Around) (n : Numbered) → WeighsIn (p a n) n s
 
 -- ---- sums that stop at the greatest number
 
-leaf_weighs : (sites w v h t : ℕ) → w ≡ counted v → leaf sites w ≡ record { size = counted (1 + v); copied = counted (1 + v); height = 1; traps = 0; sites = sites }
+pub leaf_weighs : (sites w v h t : ℕ) → w ≡ counted v → leaf sites w ≡ record { size = counted (1 + v); copied = counted (1 + v); height = 1; traps = 0; sites = sites }
 unfolding leaf
 leaf_weighs sites w v h t e = same_sizes (omega arith) (omega arith) refl refl refl
 
-around_weighs : (w v a b c d e : ℕ) → counted w ≡ counted v
+pub around_weighs : (w v a b c d e : ℕ) → counted w ≡ counted v
     → around w (record { size = counted a; copied = counted b; height = counted c; traps = counted d; sites = counted e })
     ≡ record { size = counted (1 + v + a); copied = counted (1 + v + b); height = counted (1 + c); traps = counted d; sites = counted e }
 unfolding around
 around_weighs w v a b c d e same = same_sizes (omega arith) (omega arith) (omega arith) refl refl
 
-both_weighs : (w v a b c d e a' b' c' d' e' : ℕ) → counted w ≡ counted v
+pub both_weighs : (w v a b c d e a' b' c' d' e' : ℕ) → counted w ≡ counted v
     → both w (record { size = counted a; copied = counted b; height = counted c; traps = counted d; sites = counted e }) (record { size = counted a'; copied = counted b'; height = counted c'; traps = counted d'; sites = counted e' })
     ≡ record { size = counted (1 + v + a + a'); copied = counted (1 + v + b + b'); height = counted (1 + max c c'); traps = counted (max d d'); sites = counted (e + e') }
 unfolding both
 both_weighs w v a b c d e a' b' c' d' e' same = same_sizes (omega arith) (omega arith) (omega arith) (omega arith) (omega arith)
 
-looped_weighs : (a b c d e : ℕ)
+pub looped_weighs : (a b c d e : ℕ)
     → looped (record { size = counted a; copied = counted b; height = counted c; traps = counted d; sites = counted e })
     ≡ record { size = counted (1 + a); copied = counted (2 + 2 * b); height = counted (2 + c); traps = counted d; sites = counted e }
 unfolding looped
 looped_weighs a b c d e = same_sizes (omega arith) (omega arith) (omega arith) refl refl
 
-trapped_weighs : (a b c d e : ℕ)
+pub trapped_weighs : (a b c d e : ℕ)
     → trapped (record { size = counted a; copied = counted b; height = counted c; traps = counted d; sites = counted e })
     ≡ record { size = counted (1 + a); copied = counted (1 + b); height = counted (1 + c); traps = counted (1 + d); sites = counted e }
 unfolding trapped
@@ -91,27 +91,27 @@ trapped_weighs a b c d e = same_sizes (omega arith) (omega arith) (omega arith) 
 
 -- ---- what a program looks up
 
-there : {A : Type 0} (xs : List A) (x : A) (ys : List A) → slice_get ((xs ++ x ∷ []) ++ ys) (length xs) ≡ Some x
+pub there : {A : Type 0} (xs : List A) (x : A) (ys : List A) → slice_get ((xs ++ x ∷ []) ++ ys) (length xs) ≡ Some x
 there [] x ys = refl
 there (z ∷ xs) x ys = there xs x ys
 
-blocks_same : (k : Kind) (first : Option Value) → blocks_of_first first ≡ value_blocks (first_or_default k first)
+pub blocks_same : (k : Kind) (first : Option Value) → blocks_of_first first ≡ value_blocks (first_or_default k first)
 blocks_same k (Some v) = refl
 blocks_same kind.Pure None = refl
 blocks_same kind.Int None = refl
 blocks_same kind.Bool None = refl
 blocks_same kind.Text None = refl
 
-value_same : (n : Numbered) (e : Option (Expr ℕ)) → size_of_optional (optional_expression (value_in_numbers n e)) ≡ size_of_optional (optional_expression e)
+pub value_same : (n : Numbered) (e : Option (Expr ℕ)) → size_of_optional (optional_expression (value_in_numbers n e)) ≡ size_of_optional (optional_expression e)
 value_same n None = refl
 value_same n (Some e) = same_size (number_of n) e
 
-site_same : (n : Numbered) (a : AsyncNode ℕ) → size_of_site (Some (site_in_numbers n a)) ≡ weight_of_async a
+pub site_same : (n : Numbered) (a : AsyncNode ℕ) → size_of_site (Some (site_in_numbers n a)) ≡ weight_of_async a
 site_same n a = λ i. same_arguments (number_of n) a.args i + handler_blocks a.kill + handler_blocks a.suspend + handler_blocks a.resume
 
 -- ---- statements without parts, round one part, and of two parts
 
-same_signals : (n : Numbered) → n.signals ≡ n.signals ++ []
+pub same_signals : (n : Numbered) → n.signals ≡ n.signals ++ []
 same_signals n = sym (append-nil n.signals)
 
 same_sites : (n : Numbered) → n.sites ≡ n.sites ++ []
@@ -126,14 +126,14 @@ begins_earlier signals sites ds xs signals' sites' K e f b =
       sites_are = b.sites_are ∙ ap (λ z. z ++ b.more_sites) f ∙ append_assoc sites xs b.more_sites;
     }
 
-none_inside : (t : Placed) (n : Numbered) (s : Sizes) → ((K : Kernel) → s ≡ weighed K t 0) → WeighsIn (t, n) n s
+pub none_inside : (t : Placed) (n : Numbered) (s : Sizes) → ((K : Kernel) → s ≡ weighed K t 0) → WeighsIn (t, n) n s
 none_inside t n s h = record { new_signals = []; signals_are = same_signals n; new_sites = []; sites_are = same_sites n; sizes = λ K b. h K }
 
-one_inside : (t : Placed) (x : Placed × Numbered) (n : Numbered) (s s' : Sizes) → ((K : Kernel) (k : ℕ) → s ≡ weighed K x.0 k → s' ≡ weighed K t k) → WeighsIn x n s → WeighsIn (t, x.1) n s'
+pub one_inside : (t : Placed) (x : Placed × Numbered) (n : Numbered) (s s' : Sizes) → ((K : Kernel) (k : ℕ) → s ≡ weighed K x.0 k → s' ≡ weighed K t k) → WeighsIn x n s → WeighsIn (t, x.1) n s'
 one_inside t x n s s' h w =
     record { new_signals = w.new_signals; signals_are = w.signals_are; new_sites = w.new_sites; sites_are = w.sites_are; sizes = λ K b. h K (length w.new_sites) (w.sizes K b) }
 
-two_inside : (t : Placed) (x : Placed × Numbered) (y : Placed × Numbered) (n : Numbered) (s s' s'' : Sizes) → ((K : Kernel) (j k : ℕ) → s ≡ weighed K x.0 j → s' ≡ weighed K y.0 k → s'' ≡ weighed K t (j + k))
+pub two_inside : (t : Placed) (x : Placed × Numbered) (y : Placed × Numbered) (n : Numbered) (s s' s'' : Sizes) → ((K : Kernel) (j k : ℕ) → s ≡ weighed K x.0 j → s' ≡ weighed K y.0 k → s'' ≡ weighed K t (j + k))
     → WeighsIn x n s → WeighsIn y x.1 s' → WeighsIn (t, y.1) n s''
 two_inside t x y n s s' s'' h w v =
     record {
@@ -147,7 +147,7 @@ two_inside t x y n s s' s'' h w v =
     }
 
 -- a statement inside a new signal
-local_inside : (t : Placed) (d : SignalDecl) (x : Placed × Numbered) (n : Numbered) (m : Numbered) (s s' : Sizes) → m.signals ≡ n.signals ++ d ∷ [] → m.sites ≡ n.sites
+pub local_inside : (t : Placed) (d : SignalDecl) (x : Placed × Numbered) (n : Numbered) (m : Numbered) (s s' : Sizes) → m.signals ≡ n.signals ++ d ∷ [] → m.sites ≡ n.sites
     → ((K : Kernel) (k : ℕ) → first_at K (length n.signals) ≡ d.first → s ≡ weighed K x.0 k → s' ≡ weighed K t k) → WeighsIn x m s → WeighsIn (t, x.1) n s'
 local_inside t d x n m s s' e f h w =
     let signals : x.1.signals ≡ (n.signals ++ d ∷ []) ++ w.new_signals = w.signals_are ∙ ap (λ z. z ++ w.new_signals) e in

@@ -4,7 +4,8 @@ ghost use Rattle.std.specs.Prelude.{◌≡◌, ℕ, IfOk, map};
 ghost use Rattle.std.specs.Borrow.{Bor};
 ghost use Rattle.module_tree.specs.declared.source.ModuleNode.{ModuleNode as AModule};
 ghost use Rattle.module_tree.specs.Callables.{modules_of};
-ghost use Rattle.kernel_expand.specs.Measures.{sizes_of_module};
+ghost use Rattle.kernel_expand.specs.Expansion.{expansion_of, kernel_of_expansion};
+ghost use Rattle.kernel_expand.specs.Weighed.{sizes_of_kernel};
 
 use crate::blocks::{module_at, of_block};
 use crate::sizes::Sizes;
@@ -29,9 +30,10 @@ fn modules<'a>(
     Ok(modules)
 }
 
-/// The sizes of the main module's expansion. Each module is measured once.
+/// The sizes of the kernel program that a text expands to. The program is not written out: each module is measured
+/// once, and a run counts as the body of its module.
 pub fn measure(alloc: Global, linked: &Linked) -> Result<Sizes, NoMemory>
-    ensures { IfOk result (λ s. s ≡ sizes_of_module (modules_of linked.now) 0) }
+    ensures { IfOk result (λ s. s ≡ sizes_of_kernel (kernel_of_expansion (expansion_of linked.now))) }
 {
     let modules = modules(alloc, linked.tops())?;
     let mut known = vec![in alloc; Sizes::leaf(0); modules.len()]?;

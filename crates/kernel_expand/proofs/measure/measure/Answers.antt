@@ -10,6 +10,7 @@ use Rattle.module_tree.specs.Runs.{callees_of, is_among, stand_behind_callees}
 use Rattle.kernel_expand.specs.declared.sizes.Sizes.{Sizes}
 use Rattle.kernel_expand.specs.Interpretation.{of_block}
 use Rattle.kernel_expand.specs.Measures.{measure, known}
+use Rattle.kernel_expand.proofs.Measured.{sizes_are_of_expansion}
 use Rattle.kernel_expand.proofs.Listing.{found, not_found, as_many, past_end}
 use Rattle.kernel_expand.proofs.Progress.{Progress, both_true, started, measured, skipped, finished}
 use Rattle.kernel_expand.proofs.measure.measure.Goals as goal
@@ -23,6 +24,7 @@ returns c =
     let order_is = both_true (list_all (is_among order) (range_with_len 0 (length (map callees_of ms)))) (stand_behind_callees (map callees_of ms) [] order) c.callees_first-place-items.ensures in
     c.module_at.ensures ∙ ap (λ s. known s 0) c.deref-2.ensures.value
     ∙ finished ms order c.each.known.items (subst (λ i. Progress ms order i c.each.known.items) at_end c.each.invariant) (subst (λ n. list_all (is_among order) (range_with_len 0 n) ≡ true) (length-map ms callees_of) order_is.0)
+    ∙ sizes_are_of_expansion c.args.linked.now
 
 pub each-init : goal.each-init
 each-init c =
