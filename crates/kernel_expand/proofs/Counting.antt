@@ -48,6 +48,6 @@ unfolding below
 below_strict p q f m out inside zero lt = let no : ⊥ = omega arith in absurd no
 below_strict p q f m out inside (suc n) lt =
     elim (last_or_before m n lt) [
-      inl e ↦ at_step (p n) (q n) (below p n) (below q n) (subst (λ z. p z ≡ false) e out) (subst (λ z. q z ≡ true) e inside) (below_more p q f n)
-    | inr before ↦ strict_step (p n) (q n) (below p n) (below q n) (f n) (below_strict p q f m out inside n before)
+      | inl e ↦ at_step (p n) (q n) (below p n) (below q n) (subst (λ z. p z ≡ false) e out) (subst (λ z. q z ≡ true) e inside) (below_more p q f n)
+      | inr before ↦ strict_step (p n) (q n) (below p n) (below q n) (f n) (below_strict p q f m out inside n before)
     ]

@@ -82,8 +82,8 @@ module _ (f : ℕ → Piece) (g : ℕ → Sizes) (pos : Pos) where
         new_sites = one ∷ [];
         sites_are = refl;
         sizes = λ K b.
-          leaf_weighs 1 (counted (weight_of_async d)) (size_of_site (slice_get K.sites (length n.sites))) 0 0
-          (ap counted (sym (site_same n d) ∙ ap size_of_site (sym (ap (λ z. slice_get z (length n.sites)) b.sites_are ∙ there n.sites one b.more_sites))));
+            leaf_weighs 1 (counted (weight_of_async d)) (size_of_site (slice_get K.sites (length n.sites))) 0 0
+            (ap counted (sym (site_same n d) ∙ ap size_of_site (sym (ap (λ z. slice_get z (length n.sites)) b.sites_are ∙ there n.sites one b.more_sites))));
       }
 
   pub operations_weigh : Alike HasSizes (numbering f pos) (sizes_given g)
@@ -93,43 +93,43 @@ module _ (f : ℕ → Piece) (g : ℕ → Sizes) (pos : Pos) where
         pause = λ a n. none_inside (Pause pos) n (leaf 0 0) (λ K. leaf_weighs 0 0 0 0 0 refl);
         emit = emission;
         choice = λ d p s q s' h k a n.
-          let x = p a n in
-          let y = q a x.1 in
-          two_inside (If pos (in_numbers n d) x.0 y.0) x y n s s' _ (λ K i j e e'. choice_node K x.0 y.0 i j s s' pos n d e e') (h a n) (k a x.1);
+            let x = p a n in
+            let y = q a x.1 in
+            two_inside (If pos (in_numbers n d) x.0 y.0) x y n s s' _ (λ K i j e e'. choice_node K x.0 y.0 i j s s' pos n d e e') (h a n) (k a x.1);
         suspend = λ d p s h a n.
-          let x = p a n in
-          one_inside (Suspend pos (in_numbers n d) x.0) x n s _ (λ K k e. around_node K x.0 k (counted (size_of_expression (expression_of d))) (size_of_expression (expression_of (in_numbers n d))) s (test_weight n d) e) (h a n);
+            let x = p a n in
+            one_inside (Suspend pos (in_numbers n d) x.0) x n s _ (λ K k e. around_node K x.0 k (counted (size_of_expression (expression_of d))) (size_of_expression (expression_of (in_numbers n d))) s (test_weight n d) e) (h a n);
         seq = λ p s q s' h k a n.
-          let x = p a n in
-          let y = q a x.1 in
-          two_inside (Seq pos x.0 y.0) x y n s s' _ (λ K i j e e'. seq_node K x.0 y.0 i j s s' pos e e') (h a n) (k a x.1);
+            let x = p a n in
+            let y = q a x.1 in
+            two_inside (Seq pos x.0 y.0) x y n s s' _ (λ K i j e e'. seq_node K x.0 y.0 i j s s' pos e e') (h a n) (k a x.1);
         par = λ p s q s' h k a n.
-          let x = p a n in
-          let y = q a x.1 in
-          two_inside (Par pos x.0 y.0) x y n s s' _ (λ K i j e e'. par_node K x.0 y.0 i j s s' pos e e') (h a n) (k a x.1);
+            let x = p a n in
+            let y = q a x.1 in
+            two_inside (Par pos x.0 y.0) x y n s s' _ (λ K i j e e'. par_node K x.0 y.0 i j s s' pos e e') (h a n) (k a x.1);
         loop = λ p s h a n. let x = p a n in one_inside (Loop pos x.0) x n s _ (λ K k e. looped_node K x.0 k s pos e) (h a n);
         local = λ d p s h a n.
-          let x = p a (with_place (local_signal d) n) in
-          local_inside (Local pos (length n.signals) x.0) (local_signal d) x n (with_place (local_signal d) n) s _ refl refl
-          (λ K k first e. around_node K x.0 k (blocks_of_first d.first) (value_blocks (first_at K (length n.signals))) s (ap counted (blocks_same d.kind d.first ∙ ap value_blocks (sym first))) e)
-          (h a (with_place (local_signal d) n));
+            let x = p a (with_place (local_signal d) n) in
+            local_inside (Local pos (length n.signals) x.0) (local_signal d) x n (with_place (local_signal d) n) s _ refl refl
+            (λ K k first e. around_node K x.0 k (blocks_of_first d.first) (value_blocks (first_at K (length n.signals))) s (ap counted (blocks_same d.kind d.first ∙ ap value_blocks (sym first))) e)
+            (h a (with_place (local_signal d) n));
         async = site;
         trap = λ p s h a n. let x = p (in_trap None a) n in one_inside (Trap pos x.0) x n s _ (λ K k e. trapped_node K x.0 k s pos e) (h (in_trap None a) n);
         exit = λ a n. none_inside (Exit pos 0) n (leaf 0 0) (λ K. leaf_weighs 0 0 0 0 0 refl);
         named_trap = λ p s h a n.
-          let x = p (in_trap (Some n.traps) a) (with_trap n) in
-          one_inside (Trap pos x.0) x n s _ (λ K k e. trapped_node K x.0 k s pos e) (h (in_trap (Some n.traps) a) (with_trap n));
+            let x = p (in_trap (Some n.traps) a) (with_trap n) in
+            one_inside (Trap pos x.0) x n s _ (λ K k e. trapped_node K x.0 k s pos e) (h (in_trap (Some n.traps) a) (with_trap n));
         leave = λ t a n. none_inside (Exit pos (traps_between t a.traps)) n (leaf 0 0) (λ K. leaf_weighs 0 0 0 0 0 refl);
         counter = λ p s h a n.
-          let inner : Around = record { traps = a.traps; counter = length n.signals } in
-          let x = p inner (with_signal (counter_signal pos) n) in
-          local_inside (Local pos (length n.signals) x.0) (counter_signal pos) x n (with_signal (counter_signal pos) n) s _ refl refl
-          (λ K k first e. around_node K x.0 k 0 (value_blocks (first_at K (length n.signals))) s (ap (λ v. counted (value_blocks v)) (sym first)) e)
-          (h inner (with_signal (counter_signal pos) n));
+            let inner : Around = record { traps = a.traps; counter = length n.signals } in
+            let x = p inner (with_signal (counter_signal pos) n) in
+            local_inside (Local pos (length n.signals) x.0) (counter_signal pos) x n (with_signal (counter_signal pos) n) s _ refl refl
+            (λ K k first e. around_node K x.0 k 0 (value_blocks (first_at K (length n.signals))) s (ap (λ v. counted (value_blocks v)) (sym first)) e)
+            (h inner (with_signal (counter_signal pos) n));
         suspend_counted = λ p s h a n.
-          let x = p a n in
-          let test = roll-Expr ℕ (record { pos = pos; node = node.Now a.counter }) in
-          one_inside (Suspend pos test x.0) x n s _ (λ K k e. around_node K x.0 k 1 (size_of_expression (expression_of test)) s (ap counted (sym (ap size_of_expression (expr-Now pos a.counter)))) e) (h a n);
+            let x = p a n in
+            let test = roll-Expr ℕ (record { pos = pos; node = node.Now a.counter }) in
+            one_inside (Suspend pos test x.0) x n s _ (λ K k e. around_node K x.0 k 1 (size_of_expression (expression_of test)) s (ap counted (sym (ap size_of_expression (expr-Now pos a.counter)))) e) (h a n);
         emit_counter = λ a n. none_inside (Emit pos a.counter None) n (leaf 0 0) (λ K. leaf_weighs 0 0 0 0 0 refl);
       }
 

@@ -45,8 +45,8 @@ among_front : (xs : List ℕ) (p m : ℕ) → is_among (xs ++ p ∷ []) m ≡ tr
 among_front [] p m h = inr (elim (one_true (p == m) false h) [ inl e ↦ e | inr wrong ↦ absurd (let bad : ⊥ = cc in bad) ])
 among_front (x ∷ xs) p m h =
     elim (one_true (x == m) (is_among (xs ++ p ∷ []) m) h) [
-      inl e ↦ inl (ap (λ b. b || is_among xs m) e)
-    | inr others ↦ elim (among_front xs p m others) [ inl e ↦ inl (behind_or (x == m) (is_among xs m) e) | inr e ↦ inr e ]
+      | inl e ↦ inl (ap (λ b. b || is_among xs m) e)
+      | inr others ↦ elim (among_front xs p m others) [ inl e ↦ inl (behind_or (x == m) (is_among xs m) e) | inr e ↦ inr e ]
     ]
 
 module _ (ms : List (ModuleNode ℕ)) (order : List ℕ) where
@@ -86,8 +86,8 @@ module _ (ms : List (ModuleNode ℕ)) (order : List ℕ) where
     passed_more : (m : ℕ) → is_among (take (i + 1) order) m ≡ true → is_among (place ∷ p.behind) m ≡ true
     passed_more m h =
         elim (among_front (take i order) place m (subst (λ ns. is_among ns m ≡ true) (take_more order i 0 inside_order ∙ ap (λ n. take i order ++ n ∷ []) is) h)) [
-          inl e ↦ behind_or (place == m) (is_among p.behind m) (p.passed m e)
-        | inr e ↦ ap (λ b. b || is_among p.behind m) e
+          | inl e ↦ behind_or (place == m) (is_among p.behind m) (p.passed m e)
+          | inr e ↦ ap (λ b. b || is_among p.behind m) e
         ]
 
     -- the module is measured by the sizes that are known

@@ -8,7 +8,6 @@ use Rattle.kernel_expand.proofs.Alike.{Alike}
 use Rattle.kernel_expand.proofs.AlikeTrees.{blocks_alike}
 use Rattle.kernel_expand.proofs.Depths.{ByRuns}
 
-
 same_operations : (f g : ℕ → Sizes) → Alike (λ (a b : Sizes). a ≡ b) (sizes_given f) (sizes_given g)
 same_operations f g =
     record {

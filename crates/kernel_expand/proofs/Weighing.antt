@@ -142,8 +142,8 @@ two_inside t x y n s s' s'' h w v =
       new_sites = w.new_sites ++ v.new_sites;
       sites_are = v.sites_are ∙ ap (λ z. z ++ v.new_sites) w.sites_are ∙ append_assoc n.sites w.new_sites v.new_sites;
       sizes = λ K b.
-        h K (length w.new_sites) (length v.new_sites) (w.sizes K (begins_earlier x.1.signals x.1.sites v.new_signals v.new_sites y.1.signals y.1.sites K v.signals_are v.sites_are b)) (v.sizes K b)
-        ∙ ap (λ (k : ℕ). weighed K t k) (sym (length-append w.new_sites v.new_sites));
+          h K (length w.new_sites) (length v.new_sites) (w.sizes K (begins_earlier x.1.signals x.1.sites v.new_signals v.new_sites y.1.signals y.1.sites K v.signals_are v.sites_are b)) (v.sizes K b)
+          ∙ ap (λ (k : ℕ). weighed K t k) (sym (length-append w.new_sites v.new_sites));
     }
 
 -- a statement inside a new signal
@@ -157,8 +157,8 @@ local_inside t d x n m s s' e f h w =
       new_sites = w.new_sites;
       sites_are = w.sites_are ∙ ap (λ z. z ++ w.new_sites) f;
       sizes = λ K b.
-        let rest = begins_earlier (n.signals ++ d ∷ []) n.sites w.new_signals w.new_sites x.1.signals x.1.sites K signals (w.sites_are ∙ ap (λ z. z ++ w.new_sites) f) b in
-        h K (length w.new_sites) (looked_up K (ap (λ z. slice_get z (length n.signals)) rest.signals_are ∙ there n.signals d rest.more_signals)) (w.sizes K b);
+          let rest = begins_earlier (n.signals ++ d ∷ []) n.sites w.new_signals w.new_sites x.1.signals x.1.sites K signals (w.sites_are ∙ ap (λ z. z ++ w.new_sites) f) b in
+          h K (length w.new_sites) (looked_up K (ap (λ z. slice_get z (length n.signals)) rest.signals_are ∙ there n.signals d rest.more_signals)) (w.sizes K b);
     }
   where
     looked_up : (K : Kernel) → slice_get K.signals (length n.signals) ≡ Some d → first_at K (length n.signals) ≡ d.first

@@ -13,8 +13,6 @@ listed k = in_halves k.seq k.nothing
 abbrev pub forked : {X : Type 0} → Operations X → List X → X
 forked k = in_halves k.par k.nothing
 
-
-
 abbrev pub halt : {X : Type 0} → Operations X → X
 halt k = k.loop k.pause
 

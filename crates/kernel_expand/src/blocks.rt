@@ -6,9 +6,8 @@ ghost use Rattle.kernel_expand.specs.Interpretation.{locals, of_statement, of_no
 ghost use Rattle.kernel_expand.specs.Measures.{sizes, measure, known};
 ghost use Rattle.kernel_expand.specs.Rows as row;
 
-use crate::rows;
 use crate::sizes::Sizes;
-use crate::weights;
+use crate::{rows, weights};
 use hh_base::memory::NoMemory;
 use module_tree::source::{BlockNode, SigNode, Statement, StatementNode};
 use std::alloc::Global;
@@ -93,11 +92,17 @@ fn of_statement(
         Statement::Every(delay, block) => rows::every(delay, of_block(alloc, block, modules)?),
         Statement::DoEvery(block, plain) => rows::do_every(plain, of_block(alloc, block, modules)?),
         Statement::Abort(delay, block) => rows::abort(delay, of_block(alloc, block, modules)?),
-        Statement::WeakAbort(delay, block) => rows::weak_abort(delay, of_block(alloc, block, modules)?),
+        Statement::WeakAbort(delay, block) => rows::weak_abort(
+            delay,
+            of_block(alloc, block, modules)?,
+        ),
         Statement::Suspend(immediate, test, block) => {
             rows::suspend(*immediate, test, of_block(alloc, block, modules)?)
         }
-        Statement::Signal(sigs, block) => declared(sigs.as_slice(), of_block(alloc, block, modules)?),
+        Statement::Signal(sigs, block) => declared(
+            sigs.as_slice(),
+            of_block(alloc, block, modules)?,
+        ),
         Statement::Trap(_, block) => of_block(alloc, block, modules)?.trapped(),
         Statement::Run(module, _) => module_at(modules, module.name),
         Statement::Async(node) => Sizes::site(weights::of_site(node)),
@@ -105,11 +110,7 @@ fn of_statement(
 }
 
 #[cycle(block)]
-fn of_node(
-    alloc: Global,
-    node: &StatementNode<u32>,
-    modules: &[Sizes],
-) -> Result<Sizes, NoMemory>
+fn of_node(alloc: Global, node: &StatementNode<u32>, modules: &[Sizes]) -> Result<Sizes, NoMemory>
     ensures { IfOk result (λ s. s ≡ of_node (measure (known modules.now)) node.now) }
 {
     of_statement(alloc, &node.what, modules)
@@ -117,11 +118,7 @@ fn of_node(
 
 /// The sizes of a block, where those of the modules that it runs are known.
 #[cycle(block)]
-pub fn of_block(
-    alloc: Global,
-    block: &BlockNode<u32>,
-    modules: &[Sizes],
-) -> Result<Sizes, NoMemory>
+pub fn of_block(alloc: Global, block: &BlockNode<u32>, modules: &[Sizes]) -> Result<Sizes, NoMemory>
     ensures { IfOk result (λ s. s ≡ of_block (measure (known modules.now)) block.now) }
 {
     let mut statements = Vec::with_capacity(alloc, block.statements.len())?;

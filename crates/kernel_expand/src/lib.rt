@@ -1,8 +1,10 @@
 //! The expansion of linked module texts to the kernel.
 #![tactic(auto)]
 
-pub mod sizes;
 mod blocks;
 pub mod measure;
 mod rows;
+pub mod sizes;
+#[cfg(test)]
+mod tests;
 mod weights;

@@ -15,10 +15,7 @@ use module_tree::source::{ModuleNode, Top};
 use std::alloc::Global;
 
 /// The modules of a text, in order.
-fn modules<'a>(
-    alloc: Global,
-    tops: &'a [Top<u32>],
-) -> Result<Vec<&'a ModuleNode<u32>>, NoMemory>
+fn modules<'a>(alloc: Global, tops: &'a [Top<u32>]) -> Result<Vec<&'a ModuleNode<u32>>, NoMemory>
     ensures { IfOk result (λ v. map (λ (m : Bor (AModule ℕ)). m.now) v.items ≡ modules_of tops.now) }
 {
     let mut modules = Vec::new(alloc);

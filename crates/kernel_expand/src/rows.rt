@@ -102,7 +102,10 @@ pub fn abort(delay: &Delay<u32>, body: Sizes) -> Sizes
     match delay {
         Delay::Plain(Plain::Once(test)) => abort_once(test, body),
         Delay::Plain(Plain::Count(times, test)) => abort_count(*times, test, body),
-        Delay::Immediate(test) => Sizes::leaf(0).both(abort_once(test, body), weights::of_test(test)),
+        Delay::Immediate(test) => Sizes::leaf(0).both(
+            abort_once(test, body),
+            weights::of_test(test),
+        ),
     }
 }
 

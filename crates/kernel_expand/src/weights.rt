@@ -30,8 +30,12 @@ fn of_expression(expr: &Expr<u32>) -> u64
     match &expr.node {
         ExprNode::Text(text) => blocks(text).saturating_add(1),
         ExprNode::Not(a) | ExprNode::Neg(a) => of_part(a).saturating_add(1),
-        ExprNode::Arith(_, a, b) | ExprNode::Compare(_, a, b) => of_part(a).saturating_add(of_part(b)).saturating_add(1),
-        ExprNode::And(a, b) | ExprNode::Or(a, b) => of_part(a).saturating_add(of_part(b)).saturating_add(1),
+        ExprNode::Arith(_, a, b) | ExprNode::Compare(_, a, b) => of_part(a)
+            .saturating_add(of_part(b))
+            .saturating_add(1),
+        ExprNode::And(a, b) | ExprNode::Or(a, b) => of_part(a)
+            .saturating_add(of_part(b))
+            .saturating_add(1),
         ExprNode::Choose(a, b, c) => {
             let operands = of_part(a).saturating_add(of_part(b));
             operands.saturating_add(of_part(c)).saturating_add(1)

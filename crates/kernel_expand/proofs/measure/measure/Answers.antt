@@ -44,16 +44,16 @@ each-preserved c =
     let listed = c.deref.ensures.value in
     let targets = ap (map (λ (m : Bor (ModuleNode ℕ)). m.now)) listed ∙ c.in_ok-modules.ensures ∙ ap modules_of c.tops.ensures.tops in
     elim c.match-get.branch [
-      in-Some+in_ok-known-2 w ↦
-        let look = w.in-Some.ensures.lookup in
-        let b = w.in-Some.module.now.now in
-        let value : w.in_ok-known-2.field-0 ≡ of_block (measure (known c.each.known.items)) b.block = w.in_ok-known-2.ensures ∙ ap (λ s. of_block (measure (known s)) b.block) w.deref-in-Some.ensures.value in
-        let written : c.match-get.known.items ≡ set c.each.known.items place (of_block (measure (known c.each.known.items)) b.block) =
+      | in-Some+in_ok-known-2 w ↦
+          let look = w.in-Some.ensures.lookup in
+          let b = w.in-Some.module.now.now in
+          let value : w.in_ok-known-2.field-0 ≡ of_block (measure (known c.each.known.items)) b.block = w.in_ok-known-2.ensures ∙ ap (λ s. of_block (measure (known s)) b.block) w.deref-in-Some.ensures.value in
+          let written : c.match-get.known.items ≡ set c.each.known.items place (of_block (measure (known c.each.known.items)) b.block) =
           ap (λ (v : Vec Sizes Global). v.items) w.known-is ∙ ap (λ s. set c.each.known.items place s) value in
-        subst (Progress ms order (i + 1)) (sym written)
-        (measured ms order i place c.each.known.items c.each.invariant c.each-test.true refl b (found c.deref.result.now ms place w.in-Some.module.now targets look.3.0 look.1))
-    | in_default w ↦
-        let past = past_end c.deref.result.now place c.get.result c.get.ensures.lookup w.in_default.not-Some in
-        subst (Progress ms order (i + 1)) (sym (ap (λ (v : Vec Sizes Global). v.items) w.known-is))
-        (skipped ms order i place c.each.known.items c.each.invariant c.each-test.true refl (not_found c.deref.result.now ms place targets past))
+          subst (Progress ms order (i + 1)) (sym written)
+          (measured ms order i place c.each.known.items c.each.invariant c.each-test.true refl b (found c.deref.result.now ms place w.in-Some.module.now targets look.3.0 look.1))
+      | in_default w ↦
+          let past = past_end c.deref.result.now place c.get.result c.get.ensures.lookup w.in_default.not-Some in
+          subst (Progress ms order (i + 1)) (sym (ap (λ (v : Vec Sizes Global). v.items) w.known-is))
+          (skipped ms order i place c.each.known.items c.each.invariant c.each-test.true refl (not_found c.deref.result.now ms place targets past))
     ]
