@@ -3,6 +3,9 @@ use Rattle.std.proofs.Common.{◌≡◌, ℕ, Bool, true, false, List, [], ◌�
 use Rattle.hh_base.specs.declared.value.Pos.{Pos}
 use Rattle.host_expr.specs.declared.expr.Expr.{Expr, roll-Expr}
 use Rattle.host_expr.specs.declared.expr.ExprNode.TheVariants as node
+use Rattle.hh_base.specs.declared.value.Kind.TheVariants as kind
+use Rattle.module_tree.specs.declared.source.SigNode.{SigNode}
+use Rattle.module_tree.specs.declared.source.Binding.{Binding}
 use Rattle.module_tree.specs.declared.source.NameAt.{NameAt}
 use Rattle.module_tree.specs.declared.source.ExprAt.{ExprAt}
 use Rattle.module_tree.specs.declared.source.Statement.TheOpen as s
@@ -149,3 +152,44 @@ module _ (o : Pos) (e : Expr ℕ) (runs : ℕ → Piece) where
   trap_and_break : placed (s.Trap [] (statement_means (numbering runs o) aborted)) ≡ Trap o (Trap o (Par o (Seq o (Suspend o when (Exit o 1)) (Exit o 0)) waits))
   unfolding waits start aborted around
   trap_and_break = refl
+
+  -- ---- numbers
+
+  sig : ℕ → SigNode
+  sig n = record { pos = o; name = n ∷ []; kind = kind.Pure; first = None; combine = None }
+
+  -- the first local signal outermost; places 1 and 2 are theirs, as place 0 is the interface's
+  local_signals : placed (s.Signal (sig 1 ∷ sig 2 ∷ []) ((numbering runs o).emit 2 None)) ≡ Local o 0 (Local o 1 (Emit o 1 None))
+  unfolding start
+  local_signals = refl
+
+  one_local : What
+  one_local = s.Signal (sig 1 ∷ []) ((numbering runs o).emit 1 None)
+
+  -- the counter is numbered before the signals of the body
+  counter_first : placed (s.Abort (delay.Plain (plain.Count 1 d)) (statement_means (numbering runs o) one_local))
+      ≡ Trap o (Local o 0 (Par o (Seq o (Suspend o counted (Local o 1 (Emit o 1 None))) (Exit o 0)) (Seq o (Seq o (Trap o waits) (Emit o 0 None)) (Exit o 0))))
+  unfolding start waits counted halved one_local
+  counter_first = refl
+
+  -- branches are numbered from left to right
+  branch : Piece
+  branch = (numbering runs o).local (sig 1) ((numbering runs o).emit 0 None)
+
+  branches : placed (s.Fork (branch ∷ branch ∷ branch ∷ [])) ≡ Par o (Par o (Local o 0 (Emit o 4 None)) (Local o 1 (Emit o 4 None))) (Local o 2 (Emit o 4 None))
+  unfolding start branch halved
+  branches = refl
+
+  -- two signals bound the other way round: the first of the module's interface is the caller's second
+  two_signals : Numbered
+  two_signals = record { signals = []; sites = []; places = 4 ∷ 7 ∷ []; traps = 0 }
+
+  bound : ℕ → ℕ → Binding ℕ
+  bound l r = record { left = record { pos = o; name = l }; right = record { pos = o; name = r } }
+
+  crossed : What
+  crossed = s.Run signal (bound 0 1 ∷ bound 1 0 ∷ [])
+
+  run : (statement_means (numbering (λ m. (numbering runs q).emit 0 None) o) crossed around two_signals).0 ≡ Emit q 7 None
+  unfolding two_signals crossed bound
+  run = refl
