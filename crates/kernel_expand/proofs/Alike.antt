@@ -1,10 +1,8 @@
 -- Two meanings of the kernel statements that correspond give meanings of each statement that correspond.
-use Rattle.std.proofs.Common.{◌≡◌, ℕ, zero, suc, ◌+◌, ◌/◌, ◌≤◌, Bool, true, false, List, [], ◌∷◌, ◌++◌, length, map, take, drop, replicate, Option, Some, None, refl, sym, ap, subst, ◌∙◌, arith}
+use Rattle.std.proofs.Common.{◌≡◌, ℕ, zero, suc, ◌+◌, ◌/◌, Bool, true, false, List, [], ◌∷◌, length, take, drop, replicate, Option, refl, ap, subst}
 use Rattle.std.specs.List.{AllZip}
-use Rattle.hh_base.specs.declared.value.Pos.{Pos}
 use Rattle.host_expr.specs.declared.expr.Expr.{Expr}
 use Rattle.module_tree.specs.declared.source.SigNode.{SigNode}
-use Rattle.module_tree.specs.declared.source.Binding.{Binding}
 use Rattle.module_tree.specs.declared.source.Plain.{Plain}
 use Rattle.module_tree.specs.declared.source.Plain.TheVariants as plain
 use Rattle.module_tree.specs.declared.source.Delay.{Delay}

@@ -1,5 +1,5 @@
 -- Two meanings that correspond, over whole statements and blocks: where they correspond on the modules that a block runs.
-use Rattle.std.proofs.Common.{◌≡◌, ℕ, List, [], ◌∷◌, ◌++◌, map, Option, Some, None, sym, ap, subst, ◌∙◌, append_assoc}
+use Rattle.std.proofs.Common.{◌≡◌, ℕ, List, [], ◌∷◌, ◌++◌, map, Some, None, sym, ap, subst, ◌∙◌, append_assoc}
 use Rattle.std.specs.List.{AllByRecursion, AllZip, flat_map}
 use Rattle.hh_base.specs.declared.value.Pos.{Pos}
 use Rattle.module_tree.specs.declared.source.Binding.{Binding}
@@ -16,7 +16,6 @@ use Rattle.module_tree.specs.Scopes.{InScope, Declared}
 use Rattle.module_tree.specs.Parts as parts
 use Rattle.module_tree.specs.Parts.{Walk, Placed, block_walk}
 use Rattle.module_tree.specs.Runs.{callee_of}
-use Rattle.kernel_expand.specs.Operations.{Operations}
 use Rattle.kernel_expand.specs.Rows as row
 use Rattle.kernel_expand.specs.Interpretation as tree
 use Rattle.kernel_expand.specs.Interpretation.{Kernel, of_statement, of_node, of_block, test_of, value_of}

@@ -1,16 +1,16 @@
 -- How deep modules run one another: behind all that it runs, a module means the same however deep that is allowed to be.
-use Rattle.std.proofs.Common.{◌≡◌, ℕ, zero, suc, ◌+◌, ◌<◌, ◌≤◌, Bool, true, false, List, [], ◌∷◌, ◌++◌, length, map, get_or, Option, Some, None, ◌⊎◌, inl, inr, refl, sym, ap, subst, ◌∙◌, arith, eq-eqb, eqb-true}
+use Rattle.std.proofs.Common.{◌≡◌, ℕ, zero, suc, ◌<◌, ◌≤◌, Bool, true, false, List, [], ◌∷◌, length, map, Option, Some, None, ◌⊎◌, inl, inr, refl, sym, ap, subst, ◌∙◌, arith, eq-eqb, eqb-true}
 use Rattle.std.specs.Prelude.{◌==◌, ◌&&◌, ◌||◌, slice_get}
-use Rattle.std.specs.List.{AllByRecursion, list_all, list_any}
+use Rattle.std.specs.List.{AllByRecursion, list_all}
 use Rattle.module_tree.specs.declared.source.BlockNode.{BlockNode}
 use Rattle.module_tree.specs.declared.source.ModuleNode.{ModuleNode}
 use Rattle.module_tree.specs.Scopes.{InScope, Declared}
 use Rattle.module_tree.specs.Parts.{block_walk, parts_of}
 use Rattle.module_tree.specs.Runs.{callees_of, or_none, is_among}
-use Rattle.kernel_expand.specs.Interpretation.{Kernel, of_block}
+use Rattle.kernel_expand.specs.Interpretation.{of_block}
 use Rattle.kernel_expand.specs.Modules.{Language, body_means, of_module}
 use Rattle.kernel_expand.proofs.AlikeTrees.{Runs}
-use Rattle.kernel_expand.proofs.Counting.{below, below_most, below_more, below_strict}
+use Rattle.kernel_expand.proofs.Counting.{below, below_more, below_strict}
 
 -- a block means the same where the modules that it runs do
 abbrev pub ByRuns : {X : Type 0} → Language X → Type 0

@@ -1,5 +1,5 @@
 -- What each derived statement expands to, computed from the definitions alone, at a position `o`, where `p` stands for its body.
-use Rattle.std.proofs.Common.{◌≡◌, ℕ, Bool, true, false, List, [], ◌∷◌, Option, Some, None, refl}
+use Rattle.std.proofs.Common.{◌≡◌, ℕ, true, false, [], ◌∷◌, Some, None, refl}
 use Rattle.hh_base.specs.declared.value.Pos.{Pos}
 use Rattle.host_expr.specs.declared.expr.Expr.{Expr, roll-Expr}
 use Rattle.host_expr.specs.declared.expr.ExprNode.TheVariants as node
@@ -11,10 +11,10 @@ use Rattle.module_tree.specs.declared.source.ExprAt.{ExprAt}
 use Rattle.module_tree.specs.declared.source.Statement.TheOpen as s
 use Rattle.module_tree.specs.declared.source.Plain.TheVariants as plain
 use Rattle.module_tree.specs.declared.source.Delay.TheVariants as delay
-use Rattle.hh_term.specs.Placed.{Placed, Nothing, Pause, Emit, If, Suspend, Seq, Par, Loop, Trap, Exit, Local, Async}
+use Rattle.hh_term.specs.Placed.{Placed, Nothing, Pause, Emit, If, Suspend, Seq, Par, Loop, Trap, Exit, Local}
 use Rattle.kernel_expand.specs.Halves.{halved}
 use Rattle.kernel_expand.specs.Interpretation.{statement_means}
-use Rattle.kernel_expand.specs.Numbering.{Around, Numbered, Piece, alone, in_numbers, number_of, numbering}
+use Rattle.kernel_expand.specs.Numbering.{Around, Numbered, Piece, alone, in_numbers, numbering}
 
 -- a module with one signal, whose number is 4, of a program with no signals and sites so far
 start : Numbered
@@ -166,10 +166,16 @@ module _ (o : Pos) (e : Expr ℕ) (runs : ℕ → Piece) where
   one_local : What
   one_local = s.Signal (sig 1 ∷ []) ((numbering runs o).emit 1 None)
 
-  -- the counter is numbered before the signals of the body
+  -- the counter is numbered before the signals of the body; what is read behind the body is numbered as before it
+  behind_body : Numbered
+  behind_body = record { signals = []; sites = []; places = 4 ∷ 1 ∷ []; traps = 0 }
+
+  waits_behind : Placed
+  waits_behind = Loop o (Seq o (Pause o) (If o (in_numbers behind_body e) (Exit o 0) (Nothing o)))
+
   counter_first : placed (s.Abort (delay.Plain (plain.Count 1 d)) (statement_means (numbering runs o) one_local))
-      ≡ Trap o (Local o 0 (Par o (Seq o (Suspend o counted (Local o 1 (Emit o 1 None))) (Exit o 0)) (Seq o (Seq o (Trap o waits) (Emit o 0 None)) (Exit o 0))))
-  unfolding start waits counted halved one_local
+      ≡ Trap o (Local o 0 (Par o (Seq o (Suspend o counted (Local o 1 (Emit o 1 None))) (Exit o 0)) (Seq o (Seq o (Trap o waits_behind) (Emit o 0 None)) (Exit o 0))))
+  unfolding start waits_behind behind_body counted halved one_local sig
   counter_first = refl
 
   -- branches are numbered from left to right

@@ -1,5 +1,5 @@
 -- What is measured on the linked tree of a text are the sizes of its expansion.
-use Rattle.std.proofs.Common.{◌≡◌, ℕ, zero, suc, ◌+◌, List, [], ◌∷◌, ◌++◌, length, map, Option, Some, None, refl, sym, ap, subst, ◌∙◌, arith, append-nil}
+use Rattle.std.proofs.Common.{◌≡◌, ℕ, zero, suc, ◌+◌, List, [], ◌∷◌, length, Option, Some, None, refl, sym, ap, ◌∙◌, arith, append-nil}
 use Rattle.std.specs.Prelude.{slice_get}
 use Rattle.std.specs.List.{AllByRecursion}
 use Rattle.hh_base.specs.declared.value.Pos.{Pos}
@@ -8,8 +8,6 @@ use Rattle.host_expr.specs.declared.expr.ExprNode.TheVariants as node
 use Rattle.host_expr.specs.Expression.{expression_of, optional_expression}
 use Rattle.host_expr.specs.Measures.{size_of_expression}
 use Rattle.host_expr.proofs.Trees.{expr-Now}
-use Rattle.module_tree.specs.declared.source.SigNode.{SigNode}
-use Rattle.module_tree.specs.declared.source.Binding.{Binding}
 use Rattle.module_tree.specs.declared.source.AsyncNode.{AsyncNode}
 use Rattle.module_tree.specs.declared.source.ModuleNode.{ModuleNode}
 use Rattle.module_tree.specs.declared.source.Top.{Top}
@@ -17,17 +15,17 @@ use Rattle.module_tree.specs.Callables.{modules_of}
 use Rattle.module_tree.specs.Parts.{parts_of}
 use Rattle.hh_term.specs.Kernel.{Kernel, AsyncSite, first_at}
 use Rattle.hh_term.specs.Sizes.{size_of, copied_size_of, height_of, traps_round, size_of_optional, size_of_site, value_blocks}
-use Rattle.hh_term.specs.Placed.{Placed, Nothing, Pause, Emit, If, Suspend, Seq, Par, Loop, Trap, Exit, Local, Async, unplaced}
+use Rattle.hh_term.specs.Placed.{Placed, Nothing, Pause, Emit, If, Suspend, Seq, Par, Loop, Trap, Exit, Local, unplaced}
 use Rattle.kernel_expand.specs.declared.sizes.Sizes.{Sizes}
 use Rattle.kernel_expand.specs.Modules.{body_means, of_module}
 use Rattle.kernel_expand.specs.Measures.{counted, leaf, around, both, looped, trapped, blocks_of_first, weight_of_async, sizes_given, measure, sizes_of_module}
-use Rattle.kernel_expand.specs.Numbering.{Around, Numbered, Piece, number_of, in_numbers, value_in_numbers, local_signal, counter_signal, with_place, with_signal, with_site, with_trap, in_trap, site_in_numbers, traps_between, no_traps, numbering}
-use Rattle.kernel_expand.specs.Expansion.{Expansion, expansion_of, kernel_of_expansion, no_module, piece_of_module, main_interface, at_start}
+use Rattle.kernel_expand.specs.Numbering.{Around, Numbered, Piece, number_of, in_numbers, value_in_numbers, local_signal, counter_signal, with_place, with_signal, with_trap, in_trap, site_in_numbers, traps_between, no_traps, numbering}
+use Rattle.kernel_expand.specs.Expansion.{expansion_of, kernel_of_expansion, no_module, piece_of_module, main_interface, at_start}
 use Rattle.kernel_expand.specs.Weighed.{sizes_of_kernel}
 use Rattle.kernel_expand.proofs.RenamedSizes.{same_size}
 use Rattle.kernel_expand.proofs.Alike.{Alike}
 use Rattle.kernel_expand.proofs.AlikeTrees.{callees, blocks_alike}
-use Rattle.kernel_expand.proofs.Weighing.{weighed, Begins, Weighs, WeighsIn, HasSizes, leaf_weighs, around_weighs, both_weighs, looped_weighs, trapped_weighs, there, blocks_same, value_same, site_same, same_signals, none_inside, one_inside, two_inside, local_inside}
+use Rattle.kernel_expand.proofs.Weighing.{weighed, Begins, HasSizes, leaf_weighs, around_weighs, both_weighs, looped_weighs, trapped_weighs, there, blocks_same, value_same, site_same, same_signals, none_inside, one_inside, two_inside, local_inside}
 
 counted_twice : (n : ℕ) → counted (counted n) ≡ counted n
 counted_twice n = omega arith

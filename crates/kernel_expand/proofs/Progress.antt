@@ -1,7 +1,7 @@
 -- Measuring the modules of a text in an order in which each stands behind those that it runs.
-use Rattle.std.proofs.Common.{◌≡◌, ◌≢◌, ℕ, zero, suc, ◌+◌, ◌<◌, ◌≤◌, Bool, true, false, List, [], ◌∷◌, ◌++◌, length, map, take, drop, get_or, set, Option, Some, None, ◌⊎◌, inl, inr, refl, sym, ap, subst, ◌∙◌, arith, add-one, drop-cons, get_or-set_same, get_or-set_other, length-set, eq-eqb, eqb-true}
+use Rattle.std.proofs.Common.{◌≡◌, ◌≢◌, ℕ, zero, suc, ◌+◌, ◌<◌, ◌≤◌, Bool, true, false, List, [], ◌∷◌, ◌++◌, length, map, take, drop, get_or, set, Some, None, ◌⊎◌, inl, inr, refl, sym, ap, subst, ◌∙◌, arith, add-one, drop-cons, get_or-set_same, get_or-set_other, length-set, eq-eqb, eqb-true}
 use Rattle.std.specs.Prelude.{◌==◌, ◌&&◌, ◌||◌, slice_get}
-use Rattle.std.specs.List.{list_all, list_any, range_with_len}
+use Rattle.std.specs.List.{list_all, range_with_len}
 use Rattle.std.proofs.lemmas.List.{take_more, take_all, get_or_past}
 use Rattle.module_tree.specs.declared.source.ModuleNode.{ModuleNode}
 use Rattle.module_tree.specs.Runs.{callees_of, or_none, is_among, stand_behind_callees}
@@ -9,7 +9,7 @@ use Rattle.kernel_expand.specs.declared.sizes.Sizes.{Sizes}
 use Rattle.kernel_expand.specs.Interpretation.{of_block}
 use Rattle.kernel_expand.specs.Modules.{body_means, of_module}
 use Rattle.kernel_expand.specs.Measures.{leaf, measure, known, sizes_of_module}
-use Rattle.kernel_expand.proofs.Counting.{below, below_most}
+use Rattle.kernel_expand.proofs.Counting.{below_most}
 use Rattle.kernel_expand.proofs.Depths.{AreSettled, all_of, absent, runs_at, inside, one_more}
 use Rattle.kernel_expand.proofs.SameRuns.{sizes_by_runs}
 

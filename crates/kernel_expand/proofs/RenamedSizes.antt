@@ -1,15 +1,14 @@
 -- Replacing signals changes no size.
-use Rattle.std.proofs.Common.{◌≡◌, ℕ, ◌+◌, List, [], ◌∷◌, map, Option, Some, None, refl, sym, ap, subst, ◌∙◌}
+use Rattle.std.proofs.Common.{◌≡◌, ℕ, ◌+◌, List, [], ◌∷◌, map, refl, sym, ap, subst, ◌∙◌}
 use Rattle.std.specs.Prelude.{sum_by}
 use Rattle.std.specs.List.{fold}
 use Rattle.hh_base.specs.declared.value.Pos.{Pos}
 use Rattle.host_expr.specs.declared.expr.Expr.{Expr, roll-Expr}
 use Rattle.host_expr.specs.declared.expr.ExprNode.{ExprNode, roll-ExprNode}
 use Rattle.host_expr.specs.declared.expr.ExprNode.TheOpen as e
-use Rattle.host_expr.specs.declared.expr.ExprNode.TheFolds.{fold-Expr, fold-ExprNode, fold-roll-Expr, fold-roll-ExprNode, ind-Expr, map-ExprNode, map-Expr}
-use Rattle.host_expr.specs.Expression.{Expression, node_expression, expression_at, expression_of, optional_expression}
+use Rattle.host_expr.specs.declared.expr.ExprNode.TheFolds.{fold-ExprNode, fold-roll-Expr, fold-roll-ExprNode, ind-Expr, map-ExprNode, map-Expr}
+use Rattle.host_expr.specs.Expression.{Expression, node_expression, expression_at, expression_of}
 use Rattle.host_expr.specs.Measures.{size_of_expression}
-use Rattle.hh_term.specs.Sizes.{size_of_optional}
 use Rattle.module_tree.specs.declared.source.ExprAt.{ExprAt}
 use Rattle.kernel_expand.specs.Renaming.{replace_step, renamed}
 

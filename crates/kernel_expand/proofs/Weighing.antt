@@ -1,32 +1,22 @@
 -- The sizes that are measured on the linked tree are those of the statement that it expands to.
-use Rattle.std.proofs.Common.{◌≡◌, ℕ, zero, suc, ◌+◌, ◌*◌, min, max, List, [], ◌∷◌, ◌++◌, length, map, Option, Some, None, refl, sym, ap, subst, ◌∙◌, arith, append_assoc, append-nil, length-append}
-use Rattle.std.specs.Prelude.{slice_get, sum_by}
-use Rattle.std.specs.List.{AllByRecursion}
-use Rattle.hh_base.specs.Value.{default_of}
-use Rattle.hh_base.specs.declared.value.Pos.{Pos}
+use Rattle.std.proofs.Common.{◌≡◌, ℕ, ◌+◌, ◌*◌, max, List, [], ◌∷◌, ◌++◌, length, Option, Some, None, refl, sym, ap, ◌∙◌, arith, append_assoc, append-nil, length-append}
+use Rattle.std.specs.Prelude.{slice_get}
 use Rattle.hh_base.specs.declared.value.Kind.{Kind}
 use Rattle.hh_base.specs.declared.value.Kind.TheVariants as kind
 use Rattle.hh_base.specs.declared.value.Value.{Value}
 use Rattle.hh_base.specs.declared.value.Value.TheVariants as value
-use Rattle.host_expr.specs.declared.expr.Expr.{Expr, roll-Expr}
-use Rattle.host_expr.specs.declared.expr.ExprNode.TheVariants as node
-use Rattle.host_expr.specs.Expression.{expression_of, optional_expression}
-use Rattle.host_expr.specs.Measures.{size_of_expression}
-use Rattle.host_expr.proofs.Trees.{expr-Now}
-use Rattle.module_tree.specs.declared.source.SigNode.{SigNode}
-use Rattle.module_tree.specs.declared.source.Binding.{Binding}
+use Rattle.host_expr.specs.declared.expr.Expr.{Expr}
+use Rattle.host_expr.specs.Expression.{optional_expression}
 use Rattle.module_tree.specs.declared.source.AsyncNode.{AsyncNode}
 use Rattle.hh_term.specs.declared.program.SignalDecl.{SignalDecl}
 use Rattle.hh_term.specs.Kernel.{Kernel, AsyncSite, first_at}
 use Rattle.hh_term.specs.Sizes.{size_of, copied_size_of, height_of, traps_round, size_of_optional, size_of_site, value_blocks, handler_blocks}
-use Rattle.hh_term.specs.Placed.{Placed, Nothing, Pause, Emit, If, Suspend, Seq, Par, Loop, Trap, Exit, Local, Async, unplaced}
+use Rattle.hh_term.specs.Placed.{Placed, unplaced}
 use Rattle.kernel_expand.specs.declared.sizes.Sizes.{Sizes}
-use Rattle.kernel_expand.specs.Operations.{Operations}
-use Rattle.kernel_expand.specs.Measures.{counted, leaf, around, both, looped, trapped, blocks_of_first, weight_of_async, sizes_given, measure}
-use Rattle.kernel_expand.specs.Numbering.{Around, Numbered, Piece, number_of, in_numbers, value_in_numbers, first_or_default, local_signal, counter_signal, with_place, with_signal, with_site, site_in_numbers, inside_run, behind_run, numbering}
+use Rattle.kernel_expand.specs.Measures.{counted, leaf, around, both, looped, trapped, blocks_of_first, weight_of_async}
+use Rattle.kernel_expand.specs.Numbering.{Around, Numbered, Piece, number_of, value_in_numbers, first_or_default, site_in_numbers}
 use Rattle.kernel_expand.proofs.SameSizes.{same_sizes}
 use Rattle.kernel_expand.proofs.RenamedSizes.{same_size, same_arguments}
-use Rattle.kernel_expand.proofs.Alike.{Alike}
 
 abbrev pub weighed : Kernel → Placed → ℕ → Sizes
 weighed K t sites =

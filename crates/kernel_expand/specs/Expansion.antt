@@ -1,7 +1,6 @@
 -- The expansion of a linked text: the kernel program of its main module. (This project's own.)
-use Rattle.std.specs.Prelude.{ℕ, zero, suc, Option, Some, None, List, [], ◌∷◌, map, length, slice_get}
+use Rattle.std.specs.Prelude.{ℕ, Option, Some, None, List, [], ◌∷◌, map, length, slice_get}
 use Rattle.std.specs.List.{range_with_len}
-use Rattle.hh_base.specs.declared.value.Pos.{Pos}
 use Rattle.host_expr.specs.Expression.{expression_of}
 use Rattle.module_tree.specs.declared.source.ParamNode.{ParamNode}
 use Rattle.module_tree.specs.declared.source.DeclNode.{DeclNode}

@@ -4,7 +4,6 @@ use Rattle.std.specs.Prelude.{ℕ, ◌+◌, ◌*◌, min, max, Option, Some, Non
 use Rattle.hh_base.specs.declared.value.Value.{Value}
 use Rattle.host_expr.specs.Expression.{expression_of, optional_expression}
 use Rattle.host_expr.specs.Measures.{size_of_expression}
-use Rattle.module_tree.specs.declared.source.SigNode.{SigNode}
 use Rattle.module_tree.specs.declared.source.ModuleNode.{ModuleNode}
 use Rattle.module_tree.specs.declared.source.ExprAt.{ExprAt}
 use Rattle.module_tree.specs.declared.source.AsyncNode.{AsyncNode}

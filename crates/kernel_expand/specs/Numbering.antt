@@ -1,6 +1,6 @@
 -- The kernel's operations on statements that are yet to be numbered: signals and sites are numbered in the order of the term from
 -- left to right, and an exit counts the traps between it and its own. (This project's own.)
-use Rattle.std.specs.Prelude.{ℕ, zero, suc, ◌+◌, ◌==◌, Bool, false, cond, Option, Some, None, List, [], ◌∷◌, ◌++◌, map, length, option_map, slice_index_or}
+use Rattle.std.specs.Prelude.{ℕ, suc, ◌+◌, ◌==◌, Bool, false, cond, Option, Some, None, List, [], ◌∷◌, ◌++◌, map, length, slice_index_or}
 use Rattle.hh_base.specs.Value.{default_of}
 use Rattle.hh_base.specs.declared.value.Pos.{Pos}
 use Rattle.hh_base.specs.declared.value.Kind.{Kind}
@@ -19,7 +19,6 @@ use Rattle.module_tree.specs.declared.source.AsyncNode.{AsyncNode}
 use Rattle.hh_term.specs.declared.program.SignalDecl.{SignalDecl}
 use Rattle.hh_term.specs.Kernel.{AsyncSite}
 use Rattle.hh_term.specs.Placed.{Placed, Nothing, Pause, Emit, If, Suspend, Seq, Par, Loop, Trap, Exit, Local, Async}
-use Rattle.kernel_expand.specs.Operations.{Operations}
 use Rattle.kernel_expand.specs.Interpretation.{Kernel}
 use Rattle.kernel_expand.specs.Renaming.{renamed}
 

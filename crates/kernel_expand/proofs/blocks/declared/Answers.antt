@@ -1,5 +1,4 @@
-use Rattle.std.proofs.Common.{◌≡◌, ◌++◌, [], ◌∷◌, List, sym, ap, ◌∙◌}
-use Rattle.module_tree.specs.declared.source.SigNode.{SigNode}
+use Rattle.std.proofs.Common.{sym, ap, ◌∙◌}
 use Rattle.kernel_expand.specs.Interpretation.{locals}
 use Rattle.kernel_expand.specs.Measures.{sizes, around}
 use Rattle.kernel_expand.proofs.Nested.{last_inmost}

@@ -1,10 +1,7 @@
-use Rattle.std.proofs.Common.{◌≡◌, ℕ, ◌+◌, ◌≤◌, true, List, [], map, length, get_or, set, refl, Bor, Vec, Global, sym, ap, subst, ◌∙◌, arith}
-use Rattle.std.specs.Prelude.{slice_get}
+use Rattle.std.proofs.Common.{◌≡◌, ℕ, ◌+◌, true, [], map, length, get_or, set, refl, Bor, Vec, Global, sym, ap, subst, ◌∙◌, arith}
 use Rattle.std.specs.List.{list_all, range_with_len}
-use Rattle.std.specs.Vec.{with_item}
 use Rattle.std.proofs.lemmas.List.{length-map}
 use Rattle.module_tree.specs.declared.source.ModuleNode.{ModuleNode}
-use Rattle.module_tree.specs.declared.source.Top.{Top}
 use Rattle.module_tree.specs.Callables.{modules_of}
 use Rattle.module_tree.specs.Runs.{callees_of, is_among, stand_behind_callees}
 use Rattle.kernel_expand.specs.declared.sizes.Sizes.{Sizes}

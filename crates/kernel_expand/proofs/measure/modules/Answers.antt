@@ -1,7 +1,5 @@
-use Rattle.std.proofs.Common.{◌≡◌, ℕ, ◌++◌, [], ◌∷◌, map, take, arith, Bor, Vec, Global, sym, ap, ◌∙◌}
-use Rattle.std.proofs.lemmas.List.{map_push}
+use Rattle.std.proofs.Common.{ℕ, take, arith, Bor, Vec, Global, ap, ◌∙◌}
 use Rattle.module_tree.specs.declared.source.ModuleNode.{ModuleNode}
-use Rattle.module_tree.specs.declared.source.Top.{Top}
 use Rattle.module_tree.specs.Callables.{modules_of}
 use Rattle.kernel_expand.proofs.Listing.{one_more, a_module, no_module}
 use Rattle.kernel_expand.proofs.measure.modules.Goals as goal

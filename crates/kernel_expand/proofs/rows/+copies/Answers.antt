@@ -1,5 +1,4 @@
-use Rattle.std.proofs.Common.{◌≡◌, ℕ, ◌+◌, ◌-◌, ◌/◌, ◌≤◌, replicate, [], refl, sym, ap, ◌∙◌, arith}
-use Rattle.kernel_expand.specs.declared.sizes.Sizes.{Sizes}
+use Rattle.std.proofs.Common.{◌-◌, ◌/◌, replicate, [], refl, sym, ap, ◌∙◌, arith}
 use Rattle.kernel_expand.specs.Halves.{in_halves}
 use Rattle.kernel_expand.specs.Measures.{leaf, both}
 use Rattle.kernel_expand.proofs.Balanced.{no_item, one_item, same_items}

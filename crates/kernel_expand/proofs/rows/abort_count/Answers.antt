@@ -1,6 +1,5 @@
-use Rattle.std.proofs.Common.{◌≡◌, List, ap, sym, ◌∙◌}
 use Rattle.kernel_expand.specs.Interpretation.{test_of}
-use Rattle.kernel_expand.specs.Measures.{sizes, leaf, around, both, trapped}
+use Rattle.kernel_expand.specs.Measures.{sizes, leaf, both}
 use Rattle.kernel_expand.specs.Rows as row
 use Rattle.kernel_expand.proofs.Balanced.{three_items}
 use Rattle.kernel_expand.proofs.rows.abort_count.Goals as goal

@@ -1,4 +1,4 @@
-use Rattle.std.proofs.Common.{arith, refl}
+use Rattle.std.proofs.Common.{arith}
 use Rattle.kernel_expand.specs.Measures.{leaf}
 use Rattle.kernel_expand.proofs.SameSizes.{same_sizes}
 use Rattle.kernel_expand.proofs.sizes.Sizes.leaf.Goals as goal

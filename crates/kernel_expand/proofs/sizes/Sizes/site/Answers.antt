@@ -1,4 +1,4 @@
-use Rattle.std.proofs.Common.{◌≡◌, arith, refl, ap}
+use Rattle.std.proofs.Common.{refl, ap}
 use Rattle.kernel_expand.specs.declared.sizes.Sizes.{Sizes}
 use Rattle.kernel_expand.specs.Measures.{leaf}
 use Rattle.kernel_expand.proofs.SameSizes.{same_sizes}
