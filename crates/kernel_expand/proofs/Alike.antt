@@ -2,9 +2,9 @@
 use Rattle.std.proofs.Common.{◌≡◌, ℕ, zero, suc, ◌+◌, ◌/◌, Bool, true, false, List, [], ◌∷◌, length, take, drop, replicate, Option, refl, ap, subst}
 use Rattle.std.specs.List.{AllZip}
 use Rattle.host_expr.specs.declared.expr.Expr.{Expr}
-use Rattle.module_tree.specs.declared.source.SigNode.{SigNode}
-use Rattle.module_tree.specs.declared.source.Plain.{Plain}
-use Rattle.module_tree.specs.declared.source.Plain.TheVariants as plain
+use Rattle.module_tree.specs.declared.source.SignalNode.{SignalNode}
+use Rattle.module_tree.specs.declared.source.Later.{Later}
+use Rattle.module_tree.specs.declared.source.Later.TheVariants as later
 use Rattle.module_tree.specs.declared.source.Delay.{Delay}
 use Rattle.module_tree.specs.declared.source.Delay.TheVariants as delay
 use Rattle.module_tree.specs.declared.source.AsyncNode.{AsyncNode}
@@ -24,7 +24,7 @@ pub record Alike {X Y : Type 0} (R : X → Y → Type 0) (k : Operations X) (l :
   pub seq : (p : X) (p' : Y) (q : X) (q' : Y) → R p p' → R q q' → R (k.seq p q) (l.seq p' q')
   pub par : (p : X) (p' : Y) (q : X) (q' : Y) → R p p' → R q q' → R (k.par p q) (l.par p' q')
   pub loop : (p : X) (p' : Y) → R p p' → R (k.loop p) (l.loop p')
-  pub local : (d : SigNode) (p : X) (p' : Y) → R p p' → R (k.local d p) (l.local d p')
+  pub local : (d : SignalNode) (p : X) (p' : Y) → R p p' → R (k.local d p) (l.local d p')
   pub async : (a : AsyncNode ℕ) → R (k.async a) (l.async a)
   pub trap : (p : X) (p' : Y) → R p p' → R (k.trap p) (l.trap p')
   pub exit : R k.exit l.exit
@@ -108,8 +108,8 @@ module _ {X Y : Type 0} (R : X → Y → Type 0) (k : Operations X) (l : Operati
   await_count n d = listed _ _ (copies n _ _ (await_once d))
 
   pub await : (d : Delay ℕ) → R (tree.await k d) (tree.await l d)
-  await (delay.Plain (plain.Once x)) = await_once (test_of x)
-  await (delay.Plain (plain.Count n x)) = await_count n (test_of x)
+  await (delay.Later (later.Once x)) = await_once (test_of x)
+  await (delay.Later (later.Count n x)) = await_count n (test_of x)
   await (delay.Immediate x) = a.trap _ _ (waiting_now (test_of x))
 
   abort_once : (d : Expr ℕ) (p : X) (p' : Y) → R p p' → R (row.abort k d p) (row.abort l d p')
@@ -120,16 +120,16 @@ module _ {X Y : Type 0} (R : X → Y → Type 0) (k : Operations X) (l : Operati
       a.trap _ _ (a.counter _ _ (a.par _ _ _ _ (a.seq _ _ _ _ (a.suspend_counted _ _ r) a.exit) (listed (row.await_count k n d ∷ k.emit_counter ∷ k.exit ∷ []) (row.await_count l n d ∷ l.emit_counter ∷ l.exit ∷ []) (await_count n d, (a.emit_counter, (a.exit, tt))))))
 
   pub abort : (d : Delay ℕ) (p : X) (p' : Y) → R p p' → R (tree.abort k d p) (tree.abort l d p')
-  abort (delay.Plain (plain.Once x)) p p' r = abort_once (test_of x) p p' r
-  abort (delay.Plain (plain.Count n x)) p p' r = abort_count n (test_of x) p p' r
+  abort (delay.Later (later.Once x)) p p' r = abort_once (test_of x) p p' r
+  abort (delay.Later (later.Count n x)) p p' r = abort_count n (test_of x) p p' r
   abort (delay.Immediate x) p p' r = a.choice (test_of x) _ _ _ _ a.nothing (abort_once (test_of x) p p' r)
 
   beside : (p : X) (p' : Y) (w : X) (w' : Y) → R p p' → R w w' → R (k.trap (k.par (k.seq p k.exit) w)) (l.trap (l.par (l.seq p' l.exit) w'))
   beside p p' w w' r s = a.trap _ _ (a.par _ _ _ _ (a.seq _ _ _ _ r a.exit) s)
 
   pub weak_abort : (d : Delay ℕ) (p : X) (p' : Y) → R p p' → R (tree.weak_abort k d p) (tree.weak_abort l d p')
-  weak_abort (delay.Plain (plain.Once x)) p p' r = beside _ _ _ _ r (waiting (test_of x))
-  weak_abort (delay.Plain (plain.Count n x)) p p' r = beside _ _ _ _ r (a.seq _ _ _ _ (await_count n (test_of x)) a.exit)
+  weak_abort (delay.Later (later.Once x)) p p' r = beside _ _ _ _ r (waiting (test_of x))
+  weak_abort (delay.Later (later.Count n x)) p p' r = beside _ _ _ _ r (a.seq _ _ _ _ (await_count n (test_of x)) a.exit)
   weak_abort (delay.Immediate x) p p' r = beside _ _ _ _ r (waiting_now (test_of x))
 
   pub suspend : (immediate : Bool) (d : Expr ℕ) (p : X) (p' : Y) → R p p' → R (tree.suspend k immediate d p) (tree.suspend l immediate d p')
@@ -145,16 +145,16 @@ module _ {X Y : Type 0} (R : X → Y → Type 0) (k : Operations X) (l : Operati
   do_count : (n : ℕ) (d : Expr ℕ) (p : X) (p' : Y) → R p p' → R (row.do_every_count k n d p) (row.do_every_count l n d p')
   do_count n d p p' r = a.loop _ _ (abort_count n d _ _ (halted p p' r))
 
-  pub do_every : (d : Plain ℕ) (p : X) (p' : Y) → R p p' → R (tree.do_every k d p) (tree.do_every l d p')
-  do_every (plain.Once x) p p' r = do_once (test_of x) p p' r
-  do_every (plain.Count n x) p p' r = do_count n (test_of x) p p' r
+  pub do_every : (d : Later ℕ) (p : X) (p' : Y) → R p p' → R (tree.do_every k d p) (tree.do_every l d p')
+  do_every (later.Once x) p p' r = do_once (test_of x) p p' r
+  do_every (later.Count n x) p p' r = do_count n (test_of x) p p' r
 
   pub every : (d : Delay ℕ) (p : X) (p' : Y) → R p p' → R (tree.every k d p) (tree.every l d p')
-  every (delay.Plain (plain.Once x)) p p' r = a.seq _ _ _ _ (await_once (test_of x)) (do_once (test_of x) p p' r)
-  every (delay.Plain (plain.Count n x)) p p' r = a.seq _ _ _ _ (await_count n (test_of x)) (do_count n (test_of x) p p' r)
+  every (delay.Later (later.Once x)) p p' r = a.seq _ _ _ _ (await_once (test_of x)) (do_once (test_of x) p p' r)
+  every (delay.Later (later.Count n x)) p p' r = a.seq _ _ _ _ (await_count n (test_of x)) (do_count n (test_of x) p p' r)
   every (delay.Immediate x) p p' r = a.seq _ _ _ _ (a.trap _ _ (waiting_now (test_of x))) (do_once (test_of x) p p' r)
 
-  pub locals : (ds : List SigNode) (p : X) (p' : Y) → R p p' → R (tree.locals k ds p) (tree.locals l ds p')
+  pub locals : (ds : List SignalNode) (p : X) (p' : Y) → R p p' → R (tree.locals k ds p) (tree.locals l ds p')
   locals [] p p' r = r
   locals (d ∷ ds) p p' r = a.local d _ _ (locals ds p p' r)
 

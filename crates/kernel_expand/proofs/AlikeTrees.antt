@@ -8,8 +8,8 @@ use Rattle.module_tree.specs.declared.source.StatementNode.{StatementNode, roll-
 use Rattle.module_tree.specs.declared.source.Statement.{Statement, roll-Statement}
 use Rattle.module_tree.specs.declared.source.Statement.TheOpen as s
 use Rattle.module_tree.specs.declared.source.Statement.TheFolds.{fold-Statement, fold-StatementNode, fold-roll-Statement, fold-roll-StatementNode, fold-roll-BlockNode, ind-BlockNode, map-Statement, map-StatementNode, map-BlockNode}
-use Rattle.module_tree.specs.declared.source.Plain.{Plain}
-use Rattle.module_tree.specs.declared.source.Plain.TheVariants as plain
+use Rattle.module_tree.specs.declared.source.Later.{Later}
+use Rattle.module_tree.specs.declared.source.Later.TheVariants as later
 use Rattle.module_tree.specs.declared.source.Delay.{Delay}
 use Rattle.module_tree.specs.declared.source.Delay.TheVariants as delay
 use Rattle.module_tree.specs.Scopes.{InScope, Declared}
@@ -109,11 +109,11 @@ module _ {X Y : Type 0} (R : X → Y → Type 0) (k : Kernel X) (l : Kernel Y) (
 
   -- a block behind or before a delay, which runs nothing
   behind_delay : (d : Delay ℕ) (b : Block) (scope : InScope) (before : Declared) → Runs P (parts.then (parts.delay_walk d) (block_walk b.0) scope before).parts → R (of_block k b.0) (of_block l b.0)
-  behind_delay (delay.Plain (plain.Once x)) b scope before h = b.1 scope before h
-  behind_delay (delay.Plain (plain.Count n x)) b scope before h = b.1 scope before h
+  behind_delay (delay.Later (later.Once x)) b scope before h = b.1 scope before h
+  behind_delay (delay.Later (later.Count n x)) b scope before h = b.1 scope before h
   behind_delay (delay.Immediate x) b scope before h = b.1 scope before h
 
-  before_plain : (d : Plain ℕ) (b : Block) (scope : InScope) (before : Declared) → Runs P (parts.then (block_walk b.0) (parts.plain_walk d) scope before).parts → R (of_block k b.0) (of_block l b.0)
+  before_plain : (d : Later ℕ) (b : Block) (scope : InScope) (before : Declared) → Runs P (parts.then (block_walk b.0) (parts.plain_walk d) scope before).parts → R (of_block k b.0) (of_block l b.0)
   before_plain d b scope before h = b.1 scope before (runs_split P (block_walk b.0 scope before).parts (parts.plain_walk d scope (block_walk b.0 scope before).after).parts h).0
 
   statement_alike : (y : s.Statement-F ℕ What Block Node) → IsAlike (roll-Statement ℕ (map-Statement ℕ What Block Node (Statement ℕ) (BlockNode ℕ) (StatementNode ℕ) (λ n. n.0) (λ n. n.0) (λ n. n.0) y))

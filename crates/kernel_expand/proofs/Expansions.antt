@@ -4,12 +4,12 @@ use Rattle.hh_base.specs.declared.value.Pos.{Pos}
 use Rattle.host_expr.specs.declared.expr.Expr.{Expr, roll-Expr}
 use Rattle.host_expr.specs.declared.expr.ExprNode.TheVariants as node
 use Rattle.hh_base.specs.declared.value.Kind.TheVariants as kind
-use Rattle.module_tree.specs.declared.source.SigNode.{SigNode}
+use Rattle.module_tree.specs.declared.source.SignalNode.{SignalNode}
 use Rattle.module_tree.specs.declared.source.Binding.{Binding}
 use Rattle.module_tree.specs.declared.source.NameAt.{NameAt}
 use Rattle.module_tree.specs.declared.source.ExprAt.{ExprAt}
 use Rattle.module_tree.specs.declared.source.Statement.TheOpen as s
-use Rattle.module_tree.specs.declared.source.Plain.TheVariants as plain
+use Rattle.module_tree.specs.declared.source.Later.TheVariants as later
 use Rattle.module_tree.specs.declared.source.Delay.TheVariants as delay
 use Rattle.hh_term.specs.Placed.{Placed, Nothing, Pause, Emit, If, Suspend, Seq, Par, Loop, Trap, Exit, Local}
 use Rattle.kernel_expand.specs.Halves.{halved}
@@ -71,7 +71,7 @@ module _ (o : Pos) (e : Expr ℕ) (runs : ℕ → Piece) where
   unfolding start
   if_without_else = refl
 
-  await : placed (s.Await (delay.Plain (plain.Once d))) ≡ Trap o waits
+  await : placed (s.Await (delay.Later (later.Once d))) ≡ Trap o waits
   unfolding waits start
   await = refl
 
@@ -79,11 +79,11 @@ module _ (o : Pos) (e : Expr ℕ) (runs : ℕ → Piece) where
   unfolding waits_now start
   await_immediate = refl
 
-  await_count : placed (s.Await (delay.Plain (plain.Count 3 d))) ≡ Seq o (Seq o (Trap o waits) (Trap o waits)) (Trap o waits)
+  await_count : placed (s.Await (delay.Later (later.Count 3 d))) ≡ Seq o (Seq o (Trap o waits) (Trap o waits)) (Trap o waits)
   unfolding waits start halved
   await_count = refl
 
-  abort : placed (s.Abort (delay.Plain (plain.Once d)) p) ≡ Trap o (Par o (Seq o (Suspend o when body) (Exit o 0)) waits)
+  abort : placed (s.Abort (delay.Later (later.Once d)) p) ≡ Trap o (Par o (Seq o (Suspend o when body) (Exit o 0)) waits)
   unfolding waits start
   abort = refl
 
@@ -98,11 +98,11 @@ module _ (o : Pos) (e : Expr ℕ) (runs : ℕ → Piece) where
   counts : Placed → Placed
   counts b = Trap o (Local o 0 (Par o (Seq o (Suspend o counted b) (Exit o 0)) (Seq o (Seq o (Seq o (Trap o waits) (Trap o waits)) (Emit o 0 None)) (Exit o 0))))
 
-  abort_count : placed (s.Abort (delay.Plain (plain.Count 2 d)) p) ≡ counts body
+  abort_count : placed (s.Abort (delay.Later (later.Count 2 d)) p) ≡ counts body
   unfolding waits start counted counts halved
   abort_count = refl
 
-  weak_abort : placed (s.WeakAbort (delay.Plain (plain.Once d)) p) ≡ Trap o (Par o (Seq o body (Exit o 0)) waits)
+  weak_abort : placed (s.WeakAbort (delay.Later (later.Once d)) p) ≡ Trap o (Par o (Seq o body (Exit o 0)) waits)
   unfolding waits start
   weak_abort = refl
 
@@ -110,7 +110,7 @@ module _ (o : Pos) (e : Expr ℕ) (runs : ℕ → Piece) where
   unfolding waits_now start
   weak_abort_immediate = refl
 
-  weak_abort_count : placed (s.WeakAbort (delay.Plain (plain.Count 2 d)) p) ≡ Trap o (Par o (Seq o body (Exit o 0)) (Seq o (Seq o (Trap o waits) (Trap o waits)) (Exit o 0)))
+  weak_abort_count : placed (s.WeakAbort (delay.Later (later.Count 2 d)) p) ≡ Trap o (Par o (Seq o body (Exit o 0)) (Seq o (Seq o (Trap o waits) (Trap o waits)) (Exit o 0)))
   unfolding waits start halved
   weak_abort_count = refl
 
@@ -125,15 +125,15 @@ module _ (o : Pos) (e : Expr ℕ) (runs : ℕ → Piece) where
   repeats : Placed
   repeats = Loop o (Trap o (Par o (Seq o (Suspend o when (Seq o body halts)) (Exit o 0)) waits))
 
-  do_every : placed (s.DoEvery p (plain.Once d)) ≡ repeats
+  do_every : placed (s.DoEvery p (later.Once d)) ≡ repeats
   unfolding waits start halts repeats
   do_every = refl
 
-  do_every_count : placed (s.DoEvery p (plain.Count 2 d)) ≡ Loop o (counts (Seq o body halts))
+  do_every_count : placed (s.DoEvery p (later.Count 2 d)) ≡ Loop o (counts (Seq o body halts))
   unfolding waits start halts counted counts halved
   do_every_count = refl
 
-  every : placed (s.Every (delay.Plain (plain.Once d)) p) ≡ Seq o (Trap o waits) repeats
+  every : placed (s.Every (delay.Later (later.Once d)) p) ≡ Seq o (Trap o waits) repeats
   unfolding waits start halts repeats
   every = refl
 
@@ -141,13 +141,13 @@ module _ (o : Pos) (e : Expr ℕ) (runs : ℕ → Piece) where
   unfolding waits waits_now start halts repeats
   every_immediate = refl
 
-  every_count : placed (s.Every (delay.Plain (plain.Count 2 d)) p) ≡ Seq o (Seq o (Trap o waits) (Trap o waits)) (Loop o (counts (Seq o body halts)))
+  every_count : placed (s.Every (delay.Later (later.Count 2 d)) p) ≡ Seq o (Seq o (Trap o waits) (Trap o waits)) (Loop o (counts (Seq o body halts)))
   unfolding waits start halts counted counts halved
   every_count = refl
 
   -- the exit of a trap of the text from inside an `abort`, whose own trap counts
   aborted : What
-  aborted = s.Abort (delay.Plain (plain.Once d)) ((numbering runs o).leave 0)
+  aborted = s.Abort (delay.Later (later.Once d)) ((numbering runs o).leave 0)
 
   trap_and_break : placed (s.Trap [] (statement_means (numbering runs o) aborted)) ≡ Trap o (Trap o (Par o (Seq o (Suspend o when (Exit o 1)) (Exit o 0)) waits))
   unfolding waits start aborted around
@@ -155,7 +155,7 @@ module _ (o : Pos) (e : Expr ℕ) (runs : ℕ → Piece) where
 
   -- ---- numbers
 
-  sig : ℕ → SigNode
+  sig : ℕ → SignalNode
   sig n = record { pos = o; name = n ∷ []; kind = kind.Pure; first = None; combine = None }
 
   -- the first local signal outermost; places 1 and 2 are theirs, as place 0 is the interface's
@@ -173,7 +173,7 @@ module _ (o : Pos) (e : Expr ℕ) (runs : ℕ → Piece) where
   waits_behind : Placed
   waits_behind = Loop o (Seq o (Pause o) (If o (in_numbers behind_body e) (Exit o 0) (Nothing o)))
 
-  counter_first : placed (s.Abort (delay.Plain (plain.Count 1 d)) (statement_means (numbering runs o) one_local))
+  counter_first : placed (s.Abort (delay.Later (later.Count 1 d)) (statement_means (numbering runs o) one_local))
       ≡ Trap o (Local o 0 (Par o (Seq o (Suspend o counted (Local o 1 (Emit o 1 None))) (Exit o 0)) (Seq o (Seq o (Trap o waits_behind) (Emit o 0 None)) (Exit o 0))))
   unfolding start waits_behind behind_body counted halved one_local sig
   counter_first = refl

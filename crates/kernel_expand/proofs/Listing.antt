@@ -2,35 +2,35 @@
 use Rattle.std.proofs.Common.{◌≡◌, ◌+◌, ◌<◌, List, [], ◌∷◌, ◌++◌, length, map, take, get_or, Bor, Option, Some, None, ℕ, zero, suc, ◌≤◌, refl, sym, ap, ◌∙◌, append-nil, arith}
 use Rattle.std.proofs.lemmas.List.{take_more, map_push, length-map}
 use Rattle.module_tree.specs.declared.source.ModuleNode.{ModuleNode}
-use Rattle.module_tree.specs.declared.source.Top.{Top}
-use Rattle.module_tree.specs.declared.source.Top.TheVariants as top
+use Rattle.module_tree.specs.declared.source.Part.{Part}
+use Rattle.module_tree.specs.declared.source.Part.TheVariants as part
 use Rattle.module_tree.specs.Callables.{modules_of}
 use Rattle.std.specs.Prelude.{slice_get}
 use Rattle.std.specs.Slice.{IsItemAt}
 
-joined : (xs : List (Top ℕ)) (t : Top ℕ) → modules_of (xs ++ t ∷ []) ≡ modules_of xs ++ modules_of (t ∷ [])
+joined : (xs : List (Part ℕ)) (t : Part ℕ) → modules_of (xs ++ t ∷ []) ≡ modules_of xs ++ modules_of (t ∷ [])
 joined [] t = refl
-joined (top.Module m ∷ xs) t = ap (λ ms. m ∷ ms) (joined xs t)
-joined (top.Body b ∷ xs) t = joined xs t
-joined (top.Host h ∷ xs) t = joined xs t
+joined (part.Module m ∷ xs) t = ap (λ ms. m ∷ ms) (joined xs t)
+joined (part.Body b ∷ xs) t = joined xs t
+joined (part.Host h ∷ xs) t = joined xs t
 
-pub one_more : (tops : List (Top ℕ)) (i : ℕ) (t : Top ℕ) → i < length tops → t ≡ get_or tops i t → modules_of (take (i + 1) tops) ≡ modules_of (take i tops) ++ modules_of (t ∷ [])
-one_more tops i t lt is = ap modules_of (take_more tops i t lt ∙ ap (λ u. take i tops ++ u ∷ []) (sym is)) ∙ joined (take i tops) t
+pub one_more : (parts : List (Part ℕ)) (i : ℕ) (t : Part ℕ) → i < length parts → t ≡ get_or parts i t → modules_of (take (i + 1) parts) ≡ modules_of (take i parts) ++ modules_of (t ∷ [])
+one_more parts i t lt is = ap modules_of (take_more parts i t lt ∙ ap (λ u. take i parts ++ u ∷ []) (sym is)) ∙ joined (take i parts) t
 
 abbrev targets : List (Bor (ModuleNode ℕ)) → List (ModuleNode ℕ)
 targets = map (λ (m : Bor (ModuleNode ℕ)). m.now)
 
-pub a_module : (old new : List (Bor (ModuleNode ℕ))) (m : Bor (ModuleNode ℕ)) (before : List (ModuleNode ℕ)) (t : Top ℕ) (after : List (ModuleNode ℕ)) → targets old ≡ before → after ≡ before ++ modules_of (t ∷ []) → t ≡ top.Module m.now
+pub a_module : (old new : List (Bor (ModuleNode ℕ))) (m : Bor (ModuleNode ℕ)) (before : List (ModuleNode ℕ)) (t : Part ℕ) (after : List (ModuleNode ℕ)) → targets old ≡ before → after ≡ before ++ modules_of (t ∷ []) → t ≡ part.Module m.now
     → new ≡ old ++ m ∷ [] → targets new ≡ after
 a_module old new m before t after e more is pushed =
-    ap targets pushed ∙ map_push (λ (m : Bor (ModuleNode ℕ)). m.now) old m ∙ ap (λ ms. ms ++ m.now ∷ []) e ∙ ap (λ (u : Top ℕ). before ++ modules_of (u ∷ [])) (sym is) ∙ sym more
+    ap targets pushed ∙ map_push (λ (m : Bor (ModuleNode ℕ)). m.now) old m ∙ ap (λ ms. ms ++ m.now ∷ []) e ∙ ap (λ (u : Part ℕ). before ++ modules_of (u ∷ [])) (sym is) ∙ sym more
 
-none_of : (t : Top ℕ) → ((m : ModuleNode ℕ) → t ≡ top.Module m → ⊥) → modules_of (t ∷ []) ≡ []
-none_of (top.Module m) no_one = absurd (no_one m refl)
-none_of (top.Body b) no_one = refl
-none_of (top.Host h) no_one = refl
+none_of : (t : Part ℕ) → ((m : ModuleNode ℕ) → t ≡ part.Module m → ⊥) → modules_of (t ∷ []) ≡ []
+none_of (part.Module m) no_one = absurd (no_one m refl)
+none_of (part.Body b) no_one = refl
+none_of (part.Host h) no_one = refl
 
-pub no_module : (old new : List (Bor (ModuleNode ℕ))) (before : List (ModuleNode ℕ)) (t : Top ℕ) (after : List (ModuleNode ℕ)) → targets old ≡ before → after ≡ before ++ modules_of (t ∷ []) → ((m : ModuleNode ℕ) → t ≡ top.Module m → ⊥)
+pub no_module : (old new : List (Bor (ModuleNode ℕ))) (before : List (ModuleNode ℕ)) (t : Part ℕ) (after : List (ModuleNode ℕ)) → targets old ≡ before → after ≡ before ++ modules_of (t ∷ []) → ((m : ModuleNode ℕ) → t ≡ part.Module m → ⊥)
     → new ≡ old → targets new ≡ after
 no_module old new before t after e more no_one same = ap targets same ∙ e ∙ sym (append-nil before) ∙ ap (λ ms. before ++ ms) (sym (none_of t no_one)) ∙ sym more
 

@@ -10,7 +10,7 @@ use Rattle.host_expr.specs.Measures.{size_of_expression}
 use Rattle.host_expr.proofs.Trees.{expr-Now}
 use Rattle.module_tree.specs.declared.source.AsyncNode.{AsyncNode}
 use Rattle.module_tree.specs.declared.source.ModuleNode.{ModuleNode}
-use Rattle.module_tree.specs.declared.source.Top.{Top}
+use Rattle.module_tree.specs.declared.source.Part.{Part}
 use Rattle.module_tree.specs.Callables.{modules_of}
 use Rattle.module_tree.specs.Parts.{parts_of}
 use Rattle.hh_term.specs.Kernel.{Kernel, AsyncSite, first_at}
@@ -151,12 +151,12 @@ modules_weigh ms (suc deep) m = by_module (slice_get ms m) (modules_weigh ms dee
         (λ pos n bindings w. λ a before. w no_traps _)
         b.block _ _ (everywhere (λ n. HasSizes (of_module numbering no_module ms deep n) (of_module measure (leaf 0 0) ms deep n)) h (callees (parts_of b)))
 
-pub sizes_are_of_expansion : (tops : List (Top ℕ)) → sizes_of_module (modules_of tops) 0 ≡ sizes_of_kernel (kernel_of_expansion (expansion_of tops))
-sizes_are_of_expansion tops =
-    let ms = modules_of tops in
+pub sizes_are_of_expansion : (parts : List (Part ℕ)) → sizes_of_module (modules_of parts) 0 ≡ sizes_of_kernel (kernel_of_expansion (expansion_of parts))
+sizes_are_of_expansion parts =
+    let ms = modules_of parts in
     let start = at_start (main_interface (slice_get ms 0)) in
     let x = piece_of_module ms 0 no_traps start in
-    let K = kernel_of_expansion (expansion_of tops) in
+    let K = kernel_of_expansion (expansion_of parts) in
     let w = modules_weigh ms (length ms) 0 no_traps start in
     let whole : Begins x.1.signals x.1.sites K = record { more_signals = []; signals_are = sym (append-nil x.1.signals); more_sites = []; sites_are = sym (append-nil x.1.sites) } in
     w.sizes K whole ∙ ap (λ (z : List AsyncSite). weighed K x.0 (length z)) (sym w.sites_are)

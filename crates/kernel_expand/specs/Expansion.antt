@@ -2,11 +2,11 @@
 use Rattle.std.specs.Prelude.{ℕ, Option, Some, None, List, [], ◌∷◌, map, length, slice_get}
 use Rattle.std.specs.List.{range_with_len}
 use Rattle.host_expr.specs.Expression.{expression_of}
-use Rattle.module_tree.specs.declared.source.ParamNode.{ParamNode}
-use Rattle.module_tree.specs.declared.source.DeclNode.{DeclNode}
+use Rattle.module_tree.specs.declared.source.ParameterNode.{ParameterNode}
+use Rattle.module_tree.specs.declared.source.InterfaceNode.{InterfaceNode}
 use Rattle.module_tree.specs.declared.source.ModuleNode.{ModuleNode}
-use Rattle.module_tree.specs.declared.source.Top.{Top}
-use Rattle.module_tree.specs.declared.source.Top.TheVariants as top
+use Rattle.module_tree.specs.declared.source.Part.{Part}
+use Rattle.module_tree.specs.declared.source.Part.TheVariants as part
 use Rattle.module_tree.specs.Callables.{modules_of}
 use Rattle.hh_term.specs.declared.program.SignalDecl.{SignalDecl}
 use Rattle.hh_term.specs.Kernel.{Kernel, Body, AsyncSite}
@@ -22,17 +22,17 @@ pub record Expansion : Type 0 where
   pub sites : List AsyncSite
   pub statement : Placed
 
-abbrev pub interface_signal : DeclNode → SignalDecl
+abbrev pub interface_signal : InterfaceNode → SignalDecl
 interface_signal d =
-    record { name = Some d.sig.name; dir = d.dir; kind = d.sig.kind; first = first_or_default d.sig.kind d.sig.first; combine = d.sig.combine; pos = d.sig.pos }
+    record { name = Some d.signal.name; dir = d.dir; kind = d.signal.kind; first = first_or_default d.signal.kind d.signal.first; combine = d.signal.combine; pos = d.signal.pos }
 
 -- the bodies and hosts together, in order; a host stands at its word
-abbrev pub bodies_of : List (Top ℕ) → List Body
+abbrev pub bodies_of : List (Part ℕ) → List Body
 bodies_of [] = []
-bodies_of (top.Module m ∷ tops) = bodies_of tops
-bodies_of (top.Body b ∷ tops) =
-    record { name = b.name; params = map (λ (p : ParamNode). p.kind) b.params; answer = b.answer; expr = Some (expression_of b.expr.expr); pos = b.pos } ∷ bodies_of tops
-bodies_of (top.Host h ∷ tops) = record { name = h.name; params = h.params; answer = h.answer; expr = None; pos = h.token } ∷ bodies_of tops
+bodies_of (part.Module m ∷ parts) = bodies_of parts
+bodies_of (part.Body b ∷ parts) =
+    record { name = b.name; params = map (λ (p : ParameterNode). p.kind) b.parameters; answer = b.answer; expr = Some (expression_of b.expr.expr); pos = b.pos } ∷ bodies_of parts
+bodies_of (part.Host h ∷ parts) = record { name = h.name; params = h.parameters; answer = h.answer; expr = None; pos = h.token } ∷ bodies_of parts
 
 -- stands for a module that is not there
 abbrev pub no_module : Piece
@@ -42,22 +42,22 @@ no_module = alone (λ n. Nothing (record { 0 = 0 }))
 abbrev pub piece_of_module : List (ModuleNode ℕ) → ℕ → Piece
 piece_of_module modules = of_module numbering no_module modules (length modules)
 
-abbrev pub main_interface : Option (ModuleNode ℕ) → List DeclNode
+abbrev pub main_interface : Option (ModuleNode ℕ) → List InterfaceNode
 main_interface None = []
-main_interface (Some m) = m.decls
+main_interface (Some m) = m.interface
 
 -- its interface is numbered first
-abbrev pub at_start : List DeclNode → Numbered
-at_start decls = record { signals = map interface_signal decls; sites = []; places = range_with_len 0 (length decls); traps = 0 }
+abbrev pub at_start : List InterfaceNode → Numbered
+at_start interface = record { signals = map interface_signal interface; sites = []; places = range_with_len 0 (length interface); traps = 0 }
 
-abbrev pub expanded : List (Top ℕ) → List DeclNode → Placed × Numbered → Expansion
-expanded tops interface x =
-    record { signals = x.1.signals; interface = length interface; bodies = bodies_of tops; sites = x.1.sites; statement = x.0 }
+abbrev pub expanded : List (Part ℕ) → List InterfaceNode → Placed × Numbered → Expansion
+expanded parts interface x =
+    record { signals = x.1.signals; interface = length interface; bodies = bodies_of parts; sites = x.1.sites; statement = x.0 }
 
-abbrev pub expansion_of : List (Top ℕ) → Expansion
-expansion_of tops =
-    let interface = main_interface (slice_get (modules_of tops) 0) in
-    expanded tops interface (piece_of_module (modules_of tops) 0 no_traps (at_start interface))
+abbrev pub expansion_of : List (Part ℕ) → Expansion
+expansion_of parts =
+    let interface = main_interface (slice_get (modules_of parts) 0) in
+    expanded parts interface (piece_of_module (modules_of parts) 0 no_traps (at_start interface))
 
 -- without its positions
 abbrev pub kernel_of_expansion : Expansion → Kernel

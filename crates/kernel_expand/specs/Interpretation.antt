@@ -5,14 +5,14 @@ use Rattle.std.specs.Prelude.{ℕ, Bool, true, false, Option, Some, None, List, 
 use Rattle.hh_base.specs.declared.value.Pos.{Pos}
 use Rattle.host_expr.specs.declared.expr.Expr.{Expr}
 use Rattle.module_tree.specs.declared.source.ExprAt.{ExprAt}
-use Rattle.module_tree.specs.declared.source.SigNode.{SigNode}
+use Rattle.module_tree.specs.declared.source.SignalNode.{SignalNode}
 use Rattle.module_tree.specs.declared.source.BlockNode.{BlockNode}
 use Rattle.module_tree.specs.declared.source.StatementNode.{StatementNode}
 use Rattle.module_tree.specs.declared.source.Statement.{Statement}
 use Rattle.module_tree.specs.declared.source.Statement.TheOpen as s
 use Rattle.module_tree.specs.declared.source.Statement.TheFolds.{fold-Statement, fold-StatementNode, fold-BlockNode}
-use Rattle.module_tree.specs.declared.source.Plain.{Plain}
-use Rattle.module_tree.specs.declared.source.Plain.TheVariants as plain
+use Rattle.module_tree.specs.declared.source.Later.{Later}
+use Rattle.module_tree.specs.declared.source.Later.TheVariants as later
 use Rattle.module_tree.specs.declared.source.Delay.{Delay}
 use Rattle.module_tree.specs.declared.source.Delay.TheVariants as delay
 use Rattle.kernel_expand.specs.Operations.{Operations}
@@ -26,7 +26,7 @@ value_of None = None
 value_of (Some x) = Some (test_of x)
 
 -- the first signal outermost
-abbrev pub locals : {X : Type 0} → Operations X → List SigNode → X → X
+abbrev pub locals : {X : Type 0} → Operations X → List SignalNode → X → X
 locals k [] p = p
 locals k (d ∷ ds) p = k.local d (locals k ds p)
 
@@ -36,31 +36,31 @@ otherwise k (Some q) = q
 
 -- each row by the delay that the statement has
 abbrev pub await : {X : Type 0} → Operations X → Delay ℕ → X
-await k (delay.Plain (plain.Once x)) = row.await k (test_of x)
-await k (delay.Plain (plain.Count n x)) = row.await_count k n (test_of x)
+await k (delay.Later (later.Once x)) = row.await k (test_of x)
+await k (delay.Later (later.Count n x)) = row.await_count k n (test_of x)
 await k (delay.Immediate x) = row.await_immediate k (test_of x)
 
 abbrev pub abort : {X : Type 0} → Operations X → Delay ℕ → X → X
-abort k (delay.Plain (plain.Once x)) p = row.abort k (test_of x) p
-abort k (delay.Plain (plain.Count n x)) p = row.abort_count k n (test_of x) p
+abort k (delay.Later (later.Once x)) p = row.abort k (test_of x) p
+abort k (delay.Later (later.Count n x)) p = row.abort_count k n (test_of x) p
 abort k (delay.Immediate x) p = row.abort_immediate k (test_of x) p
 
 abbrev pub weak_abort : {X : Type 0} → Operations X → Delay ℕ → X → X
-weak_abort k (delay.Plain (plain.Once x)) p = row.weak_abort k (test_of x) p
-weak_abort k (delay.Plain (plain.Count n x)) p = row.weak_abort_count k n (test_of x) p
+weak_abort k (delay.Later (later.Once x)) p = row.weak_abort k (test_of x) p
+weak_abort k (delay.Later (later.Count n x)) p = row.weak_abort_count k n (test_of x) p
 weak_abort k (delay.Immediate x) p = row.weak_abort_immediate k (test_of x) p
 
 abbrev pub suspend : {X : Type 0} → Operations X → Bool → Expr ℕ → X → X
 suspend k false d p = k.suspend d p
 suspend k true d p = row.suspend_immediate k d p
 
-abbrev pub do_every : {X : Type 0} → Operations X → Plain ℕ → X → X
-do_every k (plain.Once x) p = row.do_every k (test_of x) p
-do_every k (plain.Count n x) p = row.do_every_count k n (test_of x) p
+abbrev pub do_every : {X : Type 0} → Operations X → Later ℕ → X → X
+do_every k (later.Once x) p = row.do_every k (test_of x) p
+do_every k (later.Count n x) p = row.do_every_count k n (test_of x) p
 
 abbrev pub every : {X : Type 0} → Operations X → Delay ℕ → X → X
-every k (delay.Plain (plain.Once x)) p = row.every k (test_of x) p
-every k (delay.Plain (plain.Count n x)) p = row.every_count k n (test_of x) p
+every k (delay.Later (later.Once x)) p = row.every k (test_of x) p
+every k (delay.Later (later.Count n x)) p = row.every_count k n (test_of x) p
 every k (delay.Immediate x) p = row.every_immediate k (test_of x) p
 
 -- by one layer: what a statement means by the operations at its position, with the meanings of its blocks in their places

@@ -13,7 +13,7 @@ use Rattle.host_expr.specs.declared.expr.ExprNode.TheVariants as node
 use Rattle.host_expr.specs.Expression.{expression_of}
 use Rattle.module_tree.specs.declared.source.NameAt.{NameAt}
 use Rattle.module_tree.specs.declared.source.ExprAt.{ExprAt}
-use Rattle.module_tree.specs.declared.source.SigNode.{SigNode}
+use Rattle.module_tree.specs.declared.source.SignalNode.{SignalNode}
 use Rattle.module_tree.specs.declared.source.Binding.{Binding}
 use Rattle.module_tree.specs.declared.source.AsyncNode.{AsyncNode}
 use Rattle.hh_term.specs.declared.program.SignalDecl.{SignalDecl}
@@ -54,7 +54,7 @@ abbrev pub first_or_default : Kind → Option Value → Value
 first_or_default k None = default_of k
 first_or_default k (Some v) = v
 
-abbrev pub local_signal : SigNode → SignalDecl
+abbrev pub local_signal : SignalNode → SignalDecl
 local_signal d =
     record { name = Some d.name; dir = dir.Local; kind = d.kind; first = first_or_default d.kind d.first; combine = d.combine; pos = d.pos }
 

@@ -2,7 +2,7 @@
 -- expand to and how large that is. (Berry's kernel, The Constructive Semantics of Pure Esterel, and async, after HipHop.js.)
 use Rattle.std.specs.Prelude.{ℕ, Option, List}
 use Rattle.host_expr.specs.declared.expr.Expr.{Expr}
-use Rattle.module_tree.specs.declared.source.SigNode.{SigNode}
+use Rattle.module_tree.specs.declared.source.SignalNode.{SignalNode}
 use Rattle.module_tree.specs.declared.source.Binding.{Binding}
 use Rattle.module_tree.specs.declared.source.AsyncNode.{AsyncNode}
 
@@ -16,7 +16,7 @@ pub record Operations (X : Type 0) : Type 0 where
   pub seq : X → X → X
   pub par : X → X → X
   pub loop : X → X
-  pub local : SigNode → X → X
+  pub local : SignalNode → X → X
   pub async : AsyncNode ℕ → X
   -- a trap that a row makes, and the exit of the innermost trap
   pub trap : X → X

@@ -9,7 +9,7 @@ ghost use Rattle.kernel_expand.specs.Rows as row;
 use crate::sizes::Sizes;
 use crate::{rows, weights};
 use hh_base::memory::NoMemory;
-use module_tree::source::{BlockNode, SigNode, Statement, StatementNode};
+use module_tree::source::{BlockNode, SignalNode, Statement, StatementNode};
 use std::alloc::Global;
 
 /// Statements in a sequence, or branches of a parallel, by their halves.
@@ -27,7 +27,7 @@ fn in_halves(parts: &[Sizes]) -> Sizes
 }
 
 /// A block with its local signals round it.
-fn declared(sigs: &[SigNode], block: Sizes) -> Sizes
+fn declared(sigs: &[SignalNode], block: Sizes) -> Sizes
     ensures { result ≡ locals sizes sigs.now block }
 {
     let mut whole = block;
@@ -90,7 +90,7 @@ fn of_statement(
         Statement::Block(block) => of_block(alloc, block, modules)?,
         Statement::Await(delay) => rows::await_delay(delay),
         Statement::Every(delay, block) => rows::every(delay, of_block(alloc, block, modules)?),
-        Statement::DoEvery(block, plain) => rows::do_every(plain, of_block(alloc, block, modules)?),
+        Statement::DoEvery(block, later) => rows::do_every(later, of_block(alloc, block, modules)?),
         Statement::Abort(delay, block) => rows::abort(delay, of_block(alloc, block, modules)?),
         Statement::WeakAbort(delay, block) => rows::weak_abort(
             delay,

@@ -11,16 +11,16 @@ use crate::blocks::{module_at, of_block};
 use crate::sizes::Sizes;
 use hh_base::memory::NoMemory;
 use module_tree::linked::Linked;
-use module_tree::source::{ModuleNode, Top};
+use module_tree::source::{ModuleNode, Part};
 use std::alloc::Global;
 
 /// The modules of a text, in order.
-fn modules<'a>(alloc: Global, tops: &'a [Top<u32>]) -> Result<Vec<&'a ModuleNode<u32>>, NoMemory>
-    ensures { IfOk result (λ v. map (λ (m : Bor (AModule ℕ)). m.now) v.items ≡ modules_of tops.now) }
+fn modules<'a>(alloc: Global, parts: &'a [Part<u32>]) -> Result<Vec<&'a ModuleNode<u32>>, NoMemory>
+    ensures { IfOk result (λ v. map (λ (m : Bor (AModule ℕ)). m.now) v.items ≡ modules_of parts.now) }
 {
     let mut modules = Vec::new(alloc);
-    for top in tops {
-        if let Top::Module(module) = top {
+    for part in parts {
+        if let Part::Module(module) = part {
             modules.push(module)?;
         }
     }
@@ -32,7 +32,7 @@ fn modules<'a>(alloc: Global, tops: &'a [Top<u32>]) -> Result<Vec<&'a ModuleNode
 pub fn measure(alloc: Global, linked: &Linked) -> Result<Sizes, NoMemory>
     ensures { IfOk result (λ s. s ≡ sizes_of_kernel (kernel_of_expansion (expansion_of linked.now))) }
 {
-    let modules = modules(alloc, linked.tops())?;
+    let modules = modules(alloc, linked.parts())?;
     let mut known = vec![in alloc; Sizes::leaf(0); modules.len()]?;
     'each: for place in linked.callees_first() {
         let place = *place as usize;

@@ -8,7 +8,7 @@ ghost use Rattle.kernel_expand.specs.Rows as row;
 
 use crate::sizes::Sizes;
 use crate::weights;
-use module_tree::source::{Delay, ExprAt, Plain};
+use module_tree::source::{Delay, ExprAt, Later};
 
 fn exit_where(test: &ExprAt<u32>) -> Sizes
     ensures { result ≡ sizes.choice (test_of test.now) sizes.exit sizes.nothing }
@@ -73,8 +73,8 @@ pub fn await_delay(delay: &Delay<u32>) -> Sizes
     ensures { result ≡ tree.await sizes delay.now }
 {
     match delay {
-        Delay::Plain(Plain::Once(test)) => await_once(test),
-        Delay::Plain(Plain::Count(times, test)) => await_count(*times, test),
+        Delay::Later(Later::Once(test)) => await_once(test),
+        Delay::Later(Later::Count(times, test)) => await_count(*times, test),
         Delay::Immediate(test) => waiting_now(test).trapped(),
     }
 }
@@ -100,8 +100,8 @@ pub fn abort(delay: &Delay<u32>, body: Sizes) -> Sizes
     ensures { result ≡ tree.abort sizes delay.now body }
 {
     match delay {
-        Delay::Plain(Plain::Once(test)) => abort_once(test, body),
-        Delay::Plain(Plain::Count(times, test)) => abort_count(*times, test, body),
+        Delay::Later(Later::Once(test)) => abort_once(test, body),
+        Delay::Later(Later::Count(times, test)) => abort_count(*times, test, body),
         Delay::Immediate(test) => Sizes::leaf(0).both(
             abort_once(test, body),
             weights::of_test(test),
@@ -121,8 +121,8 @@ pub fn weak_abort(delay: &Delay<u32>, body: Sizes) -> Sizes
     ensures { result ≡ tree.weak_abort sizes delay.now body }
 {
     match delay {
-        Delay::Plain(Plain::Once(test)) => beside(body, waiting(test)),
-        Delay::Plain(Plain::Count(times, test)) => {
+        Delay::Later(Later::Once(test)) => beside(body, waiting(test)),
+        Delay::Later(Later::Count(times, test)) => {
             beside(body, await_count(*times, test).both(Sizes::leaf(0), 0))
         }
         Delay::Immediate(test) => beside(body, waiting_now(test)),
@@ -153,12 +153,12 @@ fn do_every_count(times: u8, test: &ExprAt<u32>, body: Sizes) -> Sizes
     abort_count(times, test, body.both(halt(), 0)).looped()
 }
 
-pub fn do_every(plain: &Plain<u32>, body: Sizes) -> Sizes
-    ensures { result ≡ tree.do_every sizes plain.now body }
+pub fn do_every(later: &Later<u32>, body: Sizes) -> Sizes
+    ensures { result ≡ tree.do_every sizes later.now body }
 {
-    match plain {
-        Plain::Once(test) => do_every_once(test, body),
-        Plain::Count(times, test) => do_every_count(*times, test, body),
+    match later {
+        Later::Once(test) => do_every_once(test, body),
+        Later::Count(times, test) => do_every_count(*times, test, body),
     }
 }
 
@@ -167,8 +167,8 @@ pub fn every(delay: &Delay<u32>, body: Sizes) -> Sizes
 {
     let wait = await_delay(delay);
     match delay {
-        Delay::Plain(Plain::Once(test)) => wait.both(do_every_once(test, body), 0),
-        Delay::Plain(Plain::Count(times, test)) => {
+        Delay::Later(Later::Once(test)) => wait.both(do_every_once(test, body), 0),
+        Delay::Later(Later::Count(times, test)) => {
             wait.both(do_every_count(*times, test, body), 0)
         }
         Delay::Immediate(test) => wait.both(do_every_once(test, body), 0),

@@ -6,7 +6,7 @@ use hh_base::text::Text;
 use hh_base::value::Pos;
 use host_expr::expr::{Expr, ExprNode};
 use module_tree::source::{
-    AsyncNode, BlockNode, Delay, ExprAt, NameAt, Plain, Statement, StatementNode,
+    AsyncNode, BlockNode, Delay, ExprAt, Later, NameAt, Statement, StatementNode,
 };
 use sqlite_items::Items;
 use std::alloc::Global;
@@ -49,9 +49,9 @@ fn wrapped(form: Round, body: BlockNode<u32>) -> Statement<u32> {
     let signal = test(ExprNode::Now(0));
     match form {
         Round::Loop => Statement::Loop(body),
-        Round::Abort => Statement::Abort(Delay::Plain(Plain::Once(signal)), body),
+        Round::Abort => Statement::Abort(Delay::Later(Later::Once(signal)), body),
         Round::AbortCount(times) => {
-            Statement::Abort(Delay::Plain(Plain::Count(times, signal)), body)
+            Statement::Abort(Delay::Later(Later::Count(times, signal)), body)
         }
         Round::EveryImmediate => Statement::Every(Delay::Immediate(signal), body),
     }

@@ -10,17 +10,14 @@ ghost use Rattle.kernel_expand.specs.Measures.{counted, blocks_of_first, weight_
 
 use hh_base::text::Text;
 use hh_base::value::Value;
-use host_expr::expr::{Expr, ExprNode};
+use host_expr::expr::{Expr, ExprNode, TEXT_BLOCK};
 use module_tree::source::{AsyncNode, ExprAt};
 use sqlite_items::Boxed;
-
-/// How many bytes of a text count one.
-const BLOCK: usize = 64;
 
 fn blocks(text: &Text) -> u64
     ensures { result ≡ text_blocks text.now }
 {
-    text.len().div_ceil(BLOCK) as u64
+    text.len().div_ceil(TEXT_BLOCK) as u64
 }
 
 #[cycle(weight)]

@@ -28,7 +28,7 @@ each-init c =
     let ms = modules_of c.args.linked.now in
     let order = c.callees_first-place-items.result.now in
     let order_is = both_true (list_all (is_among order) (range_with_len 0 (length (map callees_of ms)))) (stand_behind_callees (map callees_of ms) [] order) c.callees_first-place-items.ensures in
-    let modules : length c.in_ok-modules.modules.items ≡ length ms = as_many c.in_ok-modules.modules.items ms (c.in_ok-modules.ensures ∙ ap modules_of c.tops.ensures.tops) in
+    let modules : length c.in_ok-modules.modules.items ≡ length ms = as_many c.in_ok-modules.modules.items ms (c.in_ok-modules.ensures ∙ ap modules_of c.parts.ensures.parts) in
     let many = c.in_ok-known.ensures.len in
     started ms order c.in_ok-known.known.items order_is.1 (let measured = c.len.ensures in let ok = c.in_ok-known.known.ok in let listed = c.in_ok-modules.modules.ok in omega (arith, modules, many, measured, ok.0, listed.0))
 
@@ -39,7 +39,7 @@ each-preserved c =
     let i = c.each.place-index in
     let place = get_or order i 0 in
     let listed = c.deref.ensures.value in
-    let targets = ap (map (λ (m : Bor (ModuleNode ℕ)). m.now)) listed ∙ c.in_ok-modules.ensures ∙ ap modules_of c.tops.ensures.tops in
+    let targets = ap (map (λ (m : Bor (ModuleNode ℕ)). m.now)) listed ∙ c.in_ok-modules.ensures ∙ ap modules_of c.parts.ensures.parts in
     elim c.match-get.branch [
       | in-Some+in_ok-known-2 w ↦
           let look = w.in-Some.ensures.lookup in
