@@ -1,5 +1,6 @@
 -- Two meanings of the kernel statements that correspond give meanings of each statement that correspond.
-use Rattle.std.proofs.Common.{◌≡◌, ℕ, zero, suc, ◌+◌, ◌/◌, Bool, true, false, List, [], ◌∷◌, length, take, drop, replicate, Option, refl, ap, subst}
+use Rattle.std.proofs.Common.{◌≡◌, ℕ, zero, suc, ◌+◌, ◌/◌, Bool, true, false, List, [], ◌∷◌, length, take}
+use Rattle.std.proofs.Common.{drop, replicate, Option, refl, ap, subst}
 use Rattle.std.specs.List.{AllZip}
 use Rattle.host_expr.specs.declared.expr.Expr.{Expr}
 use Rattle.module_tree.specs.declared.source.SignalNode.{SignalNode}
@@ -19,7 +20,8 @@ pub record Alike {X Y : Type 0} (R : X → Y → Type 0) (k : Operations X) (l :
   pub nothing : R k.nothing l.nothing
   pub pause : R k.pause l.pause
   pub emit : (s : ℕ) (e : Option (Expr ℕ)) → R (k.emit s e) (l.emit s e)
-  pub choice : (d : Expr ℕ) (p : X) (p' : Y) (q : X) (q' : Y) → R p p' → R q q' → R (k.choice d p q) (l.choice d p' q')
+  pub choice : (d : Expr ℕ) (p : X) (p' : Y) (q : X) (q' : Y) → R p p' → R q q'
+      → R (k.choice d p q) (l.choice d p' q')
   pub suspend : (d : Expr ℕ) (p : X) (p' : Y) → R p p' → R (k.suspend d p) (l.suspend d p')
   pub seq : (p : X) (p' : Y) (q : X) (q' : Y) → R p p' → R q q' → R (k.seq p q) (l.seq p' q')
   pub par : (p : X) (p' : Y) (q : X) (q' : Y) → R p p' → R q q' → R (k.par p q) (l.par p' q')
@@ -36,20 +38,23 @@ pub record Alike {X Y : Type 0} (R : X → Y → Type 0) (k : Operations X) (l :
 
 -- ---- lists in halves
 
-zip_length : {X Y : Type 0} (R : X → Y → Type 0) (xs : List X) (ys : List Y) → AllZip R xs ys → length xs ≡ length ys
+zip_length : {X Y : Type 0} (R : X → Y → Type 0) (xs : List X) (ys : List Y) → AllZip R xs ys
+    → length xs ≡ length ys
 zip_length R [] [] z = refl
 zip_length R (x ∷ xs) (y ∷ ys) z = ap suc (zip_length R xs ys z.1)
 zip_length R [] (y ∷ ys) z = absurd z
 zip_length R (x ∷ xs) [] z = absurd z
 
-zip_take : {X Y : Type 0} (R : X → Y → Type 0) (n : ℕ) (xs : List X) (ys : List Y) → AllZip R xs ys → AllZip R (take n xs) (take n ys)
+zip_take : {X Y : Type 0} (R : X → Y → Type 0) (n : ℕ) (xs : List X) (ys : List Y) → AllZip R xs ys
+    → AllZip R (take n xs) (take n ys)
 zip_take R zero xs ys z = tt
 zip_take R (suc n) [] [] z = tt
 zip_take R (suc n) (x ∷ xs) (y ∷ ys) z = (z.0, zip_take R n xs ys z.1)
 zip_take R (suc n) [] (y ∷ ys) z = absurd z
 zip_take R (suc n) (x ∷ xs) [] z = absurd z
 
-zip_drop : {X Y : Type 0} (R : X → Y → Type 0) (n : ℕ) (xs : List X) (ys : List Y) → AllZip R xs ys → AllZip R (drop n xs) (drop n ys)
+zip_drop : {X Y : Type 0} (R : X → Y → Type 0) (n : ℕ) (xs : List X) (ys : List Y) → AllZip R xs ys
+    → AllZip R (drop n xs) (drop n ys)
 zip_drop R zero xs ys z = z
 zip_drop R (suc n) [] [] z = tt
 zip_drop R (suc n) (x ∷ xs) (y ∷ ys) z = zip_drop R n xs ys z.1
@@ -69,12 +74,18 @@ module _ {X Y : Type 0} (R : X → Y → Type 0) (f : X → X → X) (g : Y → 
   halved_alike (suc n) (x ∷ u ∷ xs) (y ∷ []) z = absurd z.1
   halved_alike (suc n) (x ∷ u ∷ xs) (y ∷ v ∷ ys) z =
       let m = (length (x ∷ u ∷ xs) + 1) / 2 in
-      let same : m ≡ (length (y ∷ v ∷ ys) + 1) / 2 = ap (λ w. (w + 1) / 2) (zip_length R (x ∷ u ∷ xs) (y ∷ v ∷ ys) z) in
-      subst (λ w. R (f (halved f e n (take m (x ∷ u ∷ xs))) (halved f e n (drop m (x ∷ u ∷ xs)))) (g (halved g d n (take w (y ∷ v ∷ ys))) (halved g d n (drop w (y ∷ v ∷ ys))))) same
-      (join _ _ _ _ (halved_alike n (take m (x ∷ u ∷ xs)) (take m (y ∷ v ∷ ys)) (zip_take R m (x ∷ u ∷ xs) (y ∷ v ∷ ys) z)) (halved_alike n (drop m (x ∷ u ∷ xs)) (drop m (y ∷ v ∷ ys)) (zip_drop R m (x ∷ u ∷ xs) (y ∷ v ∷ ys) z)))
+      let same : m ≡ (length (y ∷ v ∷ ys) + 1) / 2 =
+      ap (λ w. (w + 1) / 2) (zip_length R (x ∷ u ∷ xs) (y ∷ v ∷ ys) z) in
+      subst (λ w. R (f (halved f e n (take m (x ∷ u ∷ xs))) (halved f e n (drop m (x ∷ u ∷ xs))))
+      (g (halved g d n (take w (y ∷ v ∷ ys))) (halved g d n (drop w (y ∷ v ∷ ys))))) same
+      (join _ _ _ _ (halved_alike n (take m (x ∷ u ∷ xs)) (take m (y ∷ v ∷ ys))
+      (zip_take R m (x ∷ u ∷ xs) (y ∷ v ∷ ys) z))
+      (halved_alike n (drop m (x ∷ u ∷ xs)) (drop m (y ∷ v ∷ ys))
+      (zip_drop R m (x ∷ u ∷ xs) (y ∷ v ∷ ys) z)))
 
   pub halves_alike : (xs : List X) (ys : List Y) → AllZip R xs ys → R (in_halves f e xs) (in_halves g d ys)
-  halves_alike xs ys z = subst (λ n. R (in_halves f e xs) (halved g d n ys)) (zip_length R xs ys z) (halved_alike (length xs) xs ys z)
+  halves_alike xs ys z = subst (λ n. R (in_halves f e xs) (halved g d n ys)) (zip_length R xs ys z)
+      (halved_alike (length xs) xs ys z)
 
 -- ---- the rows
 
@@ -115,24 +126,31 @@ module _ {X Y : Type 0} (R : X → Y → Type 0) (k : Operations X) (l : Operati
   abort_once : (d : Expr ℕ) (p : X) (p' : Y) → R p p' → R (row.abort k d p) (row.abort l d p')
   abort_once d p p' r = a.trap _ _ (a.par _ _ _ _ (a.seq _ _ _ _ (a.suspend d _ _ r) a.exit) (waiting d))
 
-  abort_count : (n : ℕ) (d : Expr ℕ) (p : X) (p' : Y) → R p p' → R (row.abort_count k n d p) (row.abort_count l n d p')
+  abort_count : (n : ℕ) (d : Expr ℕ) (p : X) (p' : Y) → R p p'
+      → R (row.abort_count k n d p) (row.abort_count l n d p')
   abort_count n d p p' r =
-      a.trap _ _ (a.counter _ _ (a.par _ _ _ _ (a.seq _ _ _ _ (a.suspend_counted _ _ r) a.exit) (listed (row.await_count k n d ∷ k.emit_counter ∷ k.exit ∷ []) (row.await_count l n d ∷ l.emit_counter ∷ l.exit ∷ []) (await_count n d, (a.emit_counter, (a.exit, tt))))))
+      a.trap _ _ (a.counter _ _ (a.par _ _ _ _ (a.seq _ _ _ _ (a.suspend_counted _ _ r) a.exit)
+      (listed (row.await_count k n d ∷ k.emit_counter ∷ k.exit ∷ []) (row.await_count l n d
+      ∷ l.emit_counter ∷ l.exit ∷ []) (await_count n d, (a.emit_counter, (a.exit, tt))))))
 
   pub abort : (d : Delay ℕ) (p : X) (p' : Y) → R p p' → R (tree.abort k d p) (tree.abort l d p')
   abort (delay.Later (later.Once x)) p p' r = abort_once (test_of x) p p' r
   abort (delay.Later (later.Count n x)) p p' r = abort_count n (test_of x) p p' r
   abort (delay.Immediate x) p p' r = a.choice (test_of x) _ _ _ _ a.nothing (abort_once (test_of x) p p' r)
 
-  beside : (p : X) (p' : Y) (w : X) (w' : Y) → R p p' → R w w' → R (k.trap (k.par (k.seq p k.exit) w)) (l.trap (l.par (l.seq p' l.exit) w'))
+  beside : (p : X) (p' : Y) (w : X) (w' : Y) → R p p' → R w w'
+      → R (k.trap (k.par (k.seq p k.exit) w)) (l.trap (l.par (l.seq p' l.exit) w'))
   beside p p' w w' r s = a.trap _ _ (a.par _ _ _ _ (a.seq _ _ _ _ r a.exit) s)
 
-  pub weak_abort : (d : Delay ℕ) (p : X) (p' : Y) → R p p' → R (tree.weak_abort k d p) (tree.weak_abort l d p')
+  pub weak_abort : (d : Delay ℕ) (p : X) (p' : Y) → R p p'
+      → R (tree.weak_abort k d p) (tree.weak_abort l d p')
   weak_abort (delay.Later (later.Once x)) p p' r = beside _ _ _ _ r (waiting (test_of x))
-  weak_abort (delay.Later (later.Count n x)) p p' r = beside _ _ _ _ r (a.seq _ _ _ _ (await_count n (test_of x)) a.exit)
+  weak_abort (delay.Later (later.Count n x)) p p' r =
+      beside _ _ _ _ r (a.seq _ _ _ _ (await_count n (test_of x)) a.exit)
   weak_abort (delay.Immediate x) p p' r = beside _ _ _ _ r (waiting_now (test_of x))
 
-  pub suspend : (immediate : Bool) (d : Expr ℕ) (p : X) (p' : Y) → R p p' → R (tree.suspend k immediate d p) (tree.suspend l immediate d p')
+  pub suspend : (immediate : Bool) (d : Expr ℕ) (p : X) (p' : Y) → R p p'
+      → R (tree.suspend k immediate d p) (tree.suspend l immediate d p')
   suspend false d p p' r = a.suspend d _ _ r
   suspend true d p p' r = a.suspend d _ _ (a.seq _ _ _ _ (a.choice d _ _ _ _ a.pause a.nothing) r)
 
@@ -142,7 +160,8 @@ module _ {X Y : Type 0} (R : X → Y → Type 0) (k : Operations X) (l : Operati
   do_once : (d : Expr ℕ) (p : X) (p' : Y) → R p p' → R (row.do_every k d p) (row.do_every l d p')
   do_once d p p' r = a.loop _ _ (abort_once d _ _ (halted p p' r))
 
-  do_count : (n : ℕ) (d : Expr ℕ) (p : X) (p' : Y) → R p p' → R (row.do_every_count k n d p) (row.do_every_count l n d p')
+  do_count : (n : ℕ) (d : Expr ℕ) (p : X) (p' : Y) → R p p'
+      → R (row.do_every_count k n d p) (row.do_every_count l n d p')
   do_count n d p p' r = a.loop _ _ (abort_count n d _ _ (halted p p' r))
 
   pub do_every : (d : Later ℕ) (p : X) (p' : Y) → R p p' → R (tree.do_every k d p) (tree.do_every l d p')
@@ -150,9 +169,12 @@ module _ {X Y : Type 0} (R : X → Y → Type 0) (k : Operations X) (l : Operati
   do_every (later.Count n x) p p' r = do_count n (test_of x) p p' r
 
   pub every : (d : Delay ℕ) (p : X) (p' : Y) → R p p' → R (tree.every k d p) (tree.every l d p')
-  every (delay.Later (later.Once x)) p p' r = a.seq _ _ _ _ (await_once (test_of x)) (do_once (test_of x) p p' r)
-  every (delay.Later (later.Count n x)) p p' r = a.seq _ _ _ _ (await_count n (test_of x)) (do_count n (test_of x) p p' r)
-  every (delay.Immediate x) p p' r = a.seq _ _ _ _ (a.trap _ _ (waiting_now (test_of x))) (do_once (test_of x) p p' r)
+  every (delay.Later (later.Once x)) p p' r = a.seq _ _ _ _ (await_once (test_of x))
+      (do_once (test_of x) p p' r)
+  every (delay.Later (later.Count n x)) p p' r = a.seq _ _ _ _ (await_count n (test_of x))
+      (do_count n (test_of x) p p' r)
+  every (delay.Immediate x) p p' r = a.seq _ _ _ _ (a.trap _ _ (waiting_now (test_of x)))
+      (do_once (test_of x) p p' r)
 
   pub locals : (ds : List SignalNode) (p : X) (p' : Y) → R p p' → R (tree.locals k ds p) (tree.locals l ds p')
   locals [] p p' r = r

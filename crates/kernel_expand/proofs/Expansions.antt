@@ -1,4 +1,5 @@
--- What each derived statement expands to, computed from the definitions alone, at a position `o`, where `p` stands for its body.
+-- What each derived statement expands to, computed from the definitions alone, at a position `o`, where `p`
+-- stands for its body.
 use Rattle.std.proofs.Common.{◌≡◌, ℕ, true, false, [], ◌∷◌, Some, None, refl}
 use Rattle.hh_base.specs.declared.value.Pos.{Pos}
 use Rattle.host_expr.specs.declared.expr.Expr.{Expr, roll-Expr}
@@ -79,15 +80,18 @@ module _ (o : Pos) (e : Expr ℕ) (runs : ℕ → Piece) where
   unfolding waits_now start
   await_immediate = refl
 
-  await_count : placed (s.Await (delay.Later (later.Count 3 d))) ≡ Seq o (Seq o (Trap o waits) (Trap o waits)) (Trap o waits)
+  await_count : placed (s.Await (delay.Later (later.Count 3 d))) ≡ Seq o
+      (Seq o (Trap o waits) (Trap o waits)) (Trap o waits)
   unfolding waits start halved
   await_count = refl
 
-  abort : placed (s.Abort (delay.Later (later.Once d)) p) ≡ Trap o (Par o (Seq o (Suspend o when body) (Exit o 0)) waits)
+  abort : placed (s.Abort (delay.Later (later.Once d)) p) ≡ Trap o
+      (Par o (Seq o (Suspend o when body) (Exit o 0)) waits)
   unfolding waits start
   abort = refl
 
-  abort_immediate : placed (s.Abort (delay.Immediate d) p) ≡ If o when (Nothing o) (Trap o (Par o (Seq o (Suspend o when body) (Exit o 0)) waits))
+  abort_immediate : placed (s.Abort (delay.Immediate d) p) ≡ If o when (Nothing o)
+      (Trap o (Par o (Seq o (Suspend o when body) (Exit o 0)) waits))
   unfolding waits start
   abort_immediate = refl
 
@@ -96,21 +100,25 @@ module _ (o : Pos) (e : Expr ℕ) (runs : ℕ → Piece) where
   counted = roll-Expr ℕ (record { pos = o; node = node.Now 0 })
 
   counts : Placed → Placed
-  counts b = Trap o (Local o 0 (Par o (Seq o (Suspend o counted b) (Exit o 0)) (Seq o (Seq o (Seq o (Trap o waits) (Trap o waits)) (Emit o 0 None)) (Exit o 0))))
+  counts b = Trap o (Local o 0 (Par o (Seq o (Suspend o counted b) (Exit o 0))
+      (Seq o (Seq o (Seq o (Trap o waits) (Trap o waits)) (Emit o 0 None)) (Exit o 0))))
 
   abort_count : placed (s.Abort (delay.Later (later.Count 2 d)) p) ≡ counts body
   unfolding waits start counted counts halved
   abort_count = refl
 
-  weak_abort : placed (s.WeakAbort (delay.Later (later.Once d)) p) ≡ Trap o (Par o (Seq o body (Exit o 0)) waits)
+  weak_abort : placed (s.WeakAbort (delay.Later (later.Once d)) p) ≡ Trap o
+      (Par o (Seq o body (Exit o 0)) waits)
   unfolding waits start
   weak_abort = refl
 
-  weak_abort_immediate : placed (s.WeakAbort (delay.Immediate d) p) ≡ Trap o (Par o (Seq o body (Exit o 0)) waits_now)
+  weak_abort_immediate : placed (s.WeakAbort (delay.Immediate d) p) ≡ Trap o
+      (Par o (Seq o body (Exit o 0)) waits_now)
   unfolding waits_now start
   weak_abort_immediate = refl
 
-  weak_abort_count : placed (s.WeakAbort (delay.Later (later.Count 2 d)) p) ≡ Trap o (Par o (Seq o body (Exit o 0)) (Seq o (Seq o (Trap o waits) (Trap o waits)) (Exit o 0)))
+  weak_abort_count : placed (s.WeakAbort (delay.Later (later.Count 2 d)) p) ≡ Trap o
+      (Par o (Seq o body (Exit o 0)) (Seq o (Seq o (Trap o waits) (Trap o waits)) (Exit o 0)))
   unfolding waits start halved
   weak_abort_count = refl
 
@@ -118,7 +126,8 @@ module _ (o : Pos) (e : Expr ℕ) (runs : ℕ → Piece) where
   unfolding start
   suspend = refl
 
-  suspend_immediate : placed (s.Suspend true d p) ≡ Suspend o when (Seq o (If o when (Pause o) (Nothing o)) body)
+  suspend_immediate : placed (s.Suspend true d p) ≡ Suspend o when
+      (Seq o (If o when (Pause o) (Nothing o)) body)
   unfolding start
   suspend_immediate = refl
 
@@ -141,7 +150,8 @@ module _ (o : Pos) (e : Expr ℕ) (runs : ℕ → Piece) where
   unfolding waits waits_now start halts repeats
   every_immediate = refl
 
-  every_count : placed (s.Every (delay.Later (later.Count 2 d)) p) ≡ Seq o (Seq o (Trap o waits) (Trap o waits)) (Loop o (counts (Seq o body halts)))
+  every_count : placed (s.Every (delay.Later (later.Count 2 d)) p) ≡ Seq o
+      (Seq o (Trap o waits) (Trap o waits)) (Loop o (counts (Seq o body halts)))
   unfolding waits start halts counted counts halved
   every_count = refl
 
@@ -149,7 +159,8 @@ module _ (o : Pos) (e : Expr ℕ) (runs : ℕ → Piece) where
   aborted : What
   aborted = s.Abort (delay.Later (later.Once d)) ((numbering runs o).leave 0)
 
-  trap_and_break : placed (s.Trap [] (statement_means (numbering runs o) aborted)) ≡ Trap o (Trap o (Par o (Seq o (Suspend o when (Exit o 1)) (Exit o 0)) waits))
+  trap_and_break : placed (s.Trap [] (statement_means (numbering runs o) aborted)) ≡ Trap o
+      (Trap o (Par o (Seq o (Suspend o when (Exit o 1)) (Exit o 0)) waits))
   unfolding waits start aborted around
   trap_and_break = refl
 
@@ -159,22 +170,26 @@ module _ (o : Pos) (e : Expr ℕ) (runs : ℕ → Piece) where
   sig n = record { pos = o; name = n ∷ []; kind = kind.Pure; first = None; combine = None }
 
   -- the first local signal outermost; places 1 and 2 are theirs, as place 0 is the interface's
-  local_signals : placed (s.Signal (sig 1 ∷ sig 2 ∷ []) ((numbering runs o).emit 2 None)) ≡ Local o 0 (Local o 1 (Emit o 1 None))
+  local_signals : placed (s.Signal (sig 1 ∷ sig 2 ∷ []) ((numbering runs o).emit 2 None)) ≡ Local o 0
+      (Local o 1 (Emit o 1 None))
   unfolding start
   local_signals = refl
 
   one_local : What
   one_local = s.Signal (sig 1 ∷ []) ((numbering runs o).emit 1 None)
 
-  -- the counter is numbered before the signals of the body; what is read behind the body is numbered as before it
+  -- the counter is numbered before the signals of the body; what is read behind the body is numbered as
+  -- before it
   behind_body : Numbered
   behind_body = record { signals = []; sites = []; places = 4 ∷ 1 ∷ []; traps = 0 }
 
   waits_behind : Placed
   waits_behind = Loop o (Seq o (Pause o) (If o (in_numbers behind_body e) (Exit o 0) (Nothing o)))
 
-  counter_first : placed (s.Abort (delay.Later (later.Count 1 d)) (statement_means (numbering runs o) one_local))
-      ≡ Trap o (Local o 0 (Par o (Seq o (Suspend o counted (Local o 1 (Emit o 1 None))) (Exit o 0)) (Seq o (Seq o (Trap o waits_behind) (Emit o 0 None)) (Exit o 0))))
+  counter_first : placed (s.Abort (delay.Later (later.Count 1 d))
+      (statement_means (numbering runs o) one_local))
+      ≡ Trap o (Local o 0 (Par o (Seq o (Suspend o counted (Local o 1 (Emit o 1 None))) (Exit o 0))
+      (Seq o (Seq o (Trap o waits_behind) (Emit o 0 None)) (Exit o 0))))
   unfolding start waits_behind behind_body counted halved one_local sig
   counter_first = refl
 
@@ -182,7 +197,8 @@ module _ (o : Pos) (e : Expr ℕ) (runs : ℕ → Piece) where
   branch : Piece
   branch = (numbering runs o).local (sig 1) ((numbering runs o).emit 0 None)
 
-  branches : placed (s.Fork (branch ∷ branch ∷ branch ∷ [])) ≡ Par o (Par o (Local o 0 (Emit o 4 None)) (Local o 1 (Emit o 4 None))) (Local o 2 (Emit o 4 None))
+  branches : placed (s.Fork (branch ∷ branch ∷ branch ∷ [])) ≡ Par o
+      (Par o (Local o 0 (Emit o 4 None)) (Local o 1 (Emit o 4 None))) (Local o 2 (Emit o 4 None))
   unfolding start branch halved
   branches = refl
 
@@ -196,6 +212,7 @@ module _ (o : Pos) (e : Expr ℕ) (runs : ℕ → Piece) where
   crossed : What
   crossed = s.Run signal (bound 0 1 ∷ bound 1 0 ∷ [])
 
-  run : (statement_means (numbering (λ m. (numbering runs q).emit 0 None) o) crossed around two_signals).0 ≡ Emit q 7 None
+  run : (statement_means (numbering (λ m. (numbering runs q).emit 0 None) o) crossed around
+      two_signals).0 ≡ Emit q 7 None
   unfolding two_signals crossed bound
   run = refl

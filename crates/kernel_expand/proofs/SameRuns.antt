@@ -3,7 +3,8 @@ use Rattle.std.proofs.Common.{◌≡◌, ℕ, refl, ap}
 use Rattle.host_expr.specs.Expression.{expression_of}
 use Rattle.host_expr.specs.Measures.{size_of_expression}
 use Rattle.kernel_expand.specs.declared.sizes.Sizes.{Sizes}
-use Rattle.kernel_expand.specs.Measures.{counted, around, both, looped, trapped, blocks_of_first, sizes_given, measure}
+use Rattle.kernel_expand.specs.Measures.{counted, around, both, looped, trapped, blocks_of_first, sizes_given}
+use Rattle.kernel_expand.specs.Measures.{measure}
 use Rattle.kernel_expand.proofs.Alike.{Alike}
 use Rattle.kernel_expand.proofs.AlikeTrees.{blocks_alike}
 use Rattle.kernel_expand.proofs.Depths.{ByRuns}
@@ -32,4 +33,5 @@ same_operations f g =
 
 pub sizes_by_runs : ByRuns measure
 sizes_by_runs f g b scope before h =
-    blocks_alike (λ (a b : Sizes). a ≡ b) (measure f) (measure g) (λ m. f m ≡ g m) (λ pos. same_operations f g) (λ pos m bindings e. e) b scope before h
+    blocks_alike (λ (a b : Sizes). a ≡ b) (measure f) (measure g) (λ m. f m ≡ g m)
+    (λ pos. same_operations f g) (λ pos m bindings e. e) b scope before h

@@ -24,15 +24,36 @@ pub record Expansion : Type 0 where
 
 abbrev pub interface_signal : InterfaceNode → SignalDecl
 interface_signal d =
-    record { name = Some d.signal.name; dir = d.dir; kind = d.signal.kind; first = first_or_default d.signal.kind d.signal.first; combine = d.signal.combine; pos = d.signal.pos }
+    record {
+      name = Some d.signal.name;
+      dir = d.dir;
+      kind = d.signal.kind;
+      first =
+          first_or_default d.signal.kind d.signal.first;
+      combine = d.signal.combine;
+      pos = d.signal.pos;
+    }
 
 -- the bodies and hosts together, in order; a host stands at its word
 abbrev pub bodies_of : List (Part ℕ) → List Body
 bodies_of [] = []
 bodies_of (part.Module m ∷ parts) = bodies_of parts
 bodies_of (part.Body b ∷ parts) =
-    record { name = b.name; params = map (λ (p : ParameterNode). p.kind) b.parameters; answer = b.answer; expr = Some (expression_of b.expr.expr); pos = b.pos } ∷ bodies_of parts
-bodies_of (part.Host h ∷ parts) = record { name = h.name; params = h.parameters; answer = h.answer; expr = None; pos = h.token } ∷ bodies_of parts
+    record {
+      name = b.name;
+      params = map (λ (p : ParameterNode). p.kind) b.parameters;
+      answer = b.answer;
+      expr = Some (expression_of b.expr.expr);
+      pos = b.pos;
+    } ∷ bodies_of parts
+bodies_of (part.Host h ∷ parts) = record {
+  name = h.name;
+  params = h.parameters;
+  answer = h.answer;
+  expr =
+      None;
+  pos = h.token;
+} ∷ bodies_of parts
 
 -- stands for a module that is not there
 abbrev pub no_module : Piece
@@ -48,11 +69,24 @@ main_interface (Some m) = m.interface
 
 -- its interface is numbered first
 abbrev pub at_start : List InterfaceNode → Numbered
-at_start interface = record { signals = map interface_signal interface; sites = []; places = range_with_len 0 (length interface); traps = 0 }
+at_start interface = record {
+  signals = map interface_signal interface;
+  sites = [];
+  places =
+      range_with_len 0 (length interface);
+  traps = 0;
+}
 
 abbrev pub expanded : List (Part ℕ) → List InterfaceNode → Placed × Numbered → Expansion
 expanded parts interface x =
-    record { signals = x.1.signals; interface = length interface; bodies = bodies_of parts; sites = x.1.sites; statement = x.0 }
+    record {
+      signals = x.1.signals;
+      interface = length interface;
+      bodies = bodies_of parts;
+      sites =
+          x.1.sites;
+      statement = x.0;
+    }
 
 abbrev pub expansion_of : List (Part ℕ) → Expansion
 expansion_of parts =
@@ -62,4 +96,11 @@ expansion_of parts =
 -- without its positions
 abbrev pub kernel_of_expansion : Expansion → Kernel
 kernel_of_expansion x =
-    record { signals = x.signals; interface = x.interface; bodies = x.bodies; sites = x.sites; statement = unplaced x.statement }
+    record {
+      signals = x.signals;
+      interface = x.interface;
+      bodies = x.bodies;
+      sites = x.sites;
+      statement =
+          unplaced x.statement;
+    }

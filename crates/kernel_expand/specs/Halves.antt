@@ -1,4 +1,5 @@
--- A list as a balanced tree: nothing, its one item, or its first half, rounded up, and the rest. (This project's own.)
+-- A list as a balanced tree: nothing, its one item, or its first half, rounded up, and the rest. (This
+-- project's own.)
 use Rattle.std.specs.Prelude.{ℕ, zero, suc, ◌+◌, ◌/◌, List, [], ◌∷◌, length, take, drop}
 
 -- the number bounds how often the list is halved

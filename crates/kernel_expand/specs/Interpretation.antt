@@ -1,6 +1,6 @@
--- The expansion as a recursion over the linked tree: what a statement means, given what the kernel statements mean at each
--- position. A node that a row makes stands at the position of the derived statement, one that joins the statements of a block at
--- that of the block. (This project's own.)
+-- The expansion as a recursion over the linked tree: what a statement means, given what the kernel
+-- statements mean at each position. A node that a row makes stands at the position of the derived statement,
+-- one that joins the statements of a block at that of the block. (This project's own.)
 use Rattle.std.specs.Prelude.{ℕ, Bool, true, false, Option, Some, None, List, [], ◌∷◌}
 use Rattle.hh_base.specs.declared.value.Pos.{Pos}
 use Rattle.host_expr.specs.declared.expr.Expr.{Expr}
@@ -10,7 +10,8 @@ use Rattle.module_tree.specs.declared.source.BlockNode.{BlockNode}
 use Rattle.module_tree.specs.declared.source.StatementNode.{StatementNode}
 use Rattle.module_tree.specs.declared.source.Statement.{Statement}
 use Rattle.module_tree.specs.declared.source.Statement.TheOpen as s
-use Rattle.module_tree.specs.declared.source.Statement.TheFolds.{fold-Statement, fold-StatementNode, fold-BlockNode}
+use Rattle.module_tree.specs.declared.source.Statement.TheFolds.{fold-Statement, fold-StatementNode}
+use Rattle.module_tree.specs.declared.source.Statement.TheFolds.{fold-BlockNode}
 use Rattle.module_tree.specs.declared.source.Later.{Later}
 use Rattle.module_tree.specs.declared.source.Later.TheVariants as later
 use Rattle.module_tree.specs.declared.source.Delay.{Delay}
@@ -63,7 +64,8 @@ every k (delay.Later (later.Once x)) p = row.every k (test_of x) p
 every k (delay.Later (later.Count n x)) p = row.every_count k n (test_of x) p
 every k (delay.Immediate x) p = row.every_immediate k (test_of x) p
 
--- by one layer: what a statement means by the operations at its position, with the meanings of its blocks in their places
+-- by one layer: what a statement means by the operations at its position, with the meanings of its blocks in
+-- their places
 abbrev pub statement_means : {X Y Z : Type 0} → Operations X → s.Statement-F ℕ Y X Z → X
 statement_means k s.Nothing = k.nothing
 statement_means k s.Pause = k.pause

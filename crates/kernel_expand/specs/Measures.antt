@@ -1,5 +1,5 @@
--- The counted sizes of an expansion, measured on the linked tree without writing the expansion out: the kernel's operations as
--- operations on sizes. Numbers stop at the greatest of 64 bits. (This project's own.)
+-- The counted sizes of an expansion, measured on the linked tree without writing the expansion out: the
+-- kernel's operations as operations on sizes. Numbers stop at the greatest of 64 bits. (This project's own.)
 use Rattle.std.specs.Prelude.{ℕ, ◌+◌, ◌*◌, min, max, Option, Some, None, List, length, slice_index_or, sum_by}
 use Rattle.hh_base.specs.declared.value.Value.{Value}
 use Rattle.host_expr.specs.Expression.{expression_of, optional_expression}
@@ -22,11 +22,25 @@ counted n = min n most
 
 -- a node without parts, whose expressions weigh w, and which is so many async sites
 unfoldable pub leaf : ℕ → ℕ → Sizes
-leaf sites w = record { size = counted (1 + w); copied = counted (1 + w); height = 1; traps = 0; sites = sites }
+leaf sites w = record {
+  size = counted (1 + w);
+  copied = counted (1 + w);
+  height = 1;
+  traps = 0;
+  sites =
+      sites;
+}
 
 -- a node round one part
 unfoldable pub around : ℕ → Sizes → Sizes
-around w p = record { size = counted (1 + w + p.size); copied = counted (1 + w + p.copied); height = counted (1 + p.height); traps = p.traps; sites = p.sites }
+around w p = record {
+  size = counted (1 + w + p.size);
+  copied = counted (1 + w + p.copied);
+  height =
+      counted (1 + p.height);
+  traps = p.traps;
+  sites = p.sites;
+}
 
 -- a node of two parts
 unfoldable pub both : ℕ → Sizes → Sizes → Sizes
@@ -41,10 +55,24 @@ both w p q =
 
 -- a copied loop has its body twice, in a sequence
 unfoldable pub looped : Sizes → Sizes
-looped p = record { size = counted (1 + p.size); copied = counted (2 + 2 * p.copied); height = counted (2 + p.height); traps = p.traps; sites = p.sites }
+looped p = record {
+  size = counted (1 + p.size);
+  copied = counted (2 + 2 * p.copied);
+  height =
+      counted (2 + p.height);
+  traps = p.traps;
+  sites = p.sites;
+}
 
 unfoldable pub trapped : Sizes → Sizes
-trapped p = record { size = counted (1 + p.size); copied = counted (1 + p.copied); height = counted (1 + p.height); traps = counted (1 + p.traps); sites = p.sites }
+trapped p = record {
+  size = counted (1 + p.size);
+  copied = counted (1 + p.copied);
+  height =
+      counted (1 + p.height);
+  traps = counted (1 + p.traps);
+  sites = p.sites;
+}
 
 abbrev pub blocks_of_first : Option Value → ℕ
 blocks_of_first None = 0
@@ -52,7 +80,8 @@ blocks_of_first (Some v) = value_blocks v
 
 -- the arguments and the handlers of an async
 abbrev pub weight_of_async : AsyncNode ℕ → ℕ
-weight_of_async a = sum_by (λ (x : ExprAt ℕ). size_of_expression (expression_of x.expr)) a.args + handler_blocks a.kill + handler_blocks a.suspend + handler_blocks a.resume
+weight_of_async a = sum_by (λ (x : ExprAt ℕ). size_of_expression (expression_of x.expr)) a.args +
+    handler_blocks a.kill + handler_blocks a.suspend + handler_blocks a.resume
 
 -- `run` counts as the body of its module
 abbrev pub sizes_given : (ℕ → Sizes) → Operations Sizes

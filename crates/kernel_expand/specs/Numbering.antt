@@ -1,6 +1,8 @@
--- The kernel's operations on statements that are yet to be numbered: signals and sites are numbered in the order of the term from
--- left to right, and an exit counts the traps between it and its own. (This project's own.)
-use Rattle.std.specs.Prelude.{ℕ, suc, ◌+◌, ◌==◌, Bool, false, cond, Option, Some, None, List, [], ◌∷◌, ◌++◌, map, length, slice_index_or}
+-- The kernel's operations on statements that are yet to be numbered: signals and sites are numbered in the
+-- order of the term from left to right, and an exit counts the traps between it and its own. (This project's
+-- own.)
+use Rattle.std.specs.Prelude.{ℕ, suc, ◌+◌, ◌==◌, Bool, false, cond, Option, Some, None, List, [], ◌∷◌, ◌++◌}
+use Rattle.std.specs.Prelude.{map, length, slice_index_or}
 use Rattle.hh_base.specs.Value.{default_of}
 use Rattle.hh_base.specs.declared.value.Pos.{Pos}
 use Rattle.hh_base.specs.declared.value.Kind.{Kind}
@@ -18,18 +20,19 @@ use Rattle.module_tree.specs.declared.source.Binding.{Binding}
 use Rattle.module_tree.specs.declared.source.AsyncNode.{AsyncNode}
 use Rattle.hh_term.specs.declared.program.SignalDecl.{SignalDecl}
 use Rattle.hh_term.specs.Kernel.{AsyncSite}
-use Rattle.hh_term.specs.Placed.{Placed, Nothing, Pause, Emit, If, Suspend, Seq, Par, Loop, Trap, Exit, Local, Async}
+use Rattle.hh_term.specs.Placed.{Placed, Nothing, Pause, Emit, If, Suspend, Seq, Par, Loop, Trap, Exit, Local}
+use Rattle.hh_term.specs.Placed.{Async}
 use Rattle.kernel_expand.specs.Interpretation.{Kernel}
 use Rattle.kernel_expand.specs.Renaming.{renamed}
 
--- what stands round a statement: the traps from the inmost outward, each with its place if the text has it, and the number of the
--- inmost counter
+-- what stands round a statement: the traps from the inmost outward, each with its place if the text has it,
+-- and the number of the inmost counter
 pub record Around : Type 0 where
   pub traps : List (Option ℕ)
   pub counter : ℕ
 
--- what was numbered before it: the program's signals and sites, the numbers of its module's signals by their places, and how many
--- traps of its module
+-- what was numbered before it: the program's signals and sites, the numbers of its module's signals by their
+-- places, and how many traps of its module
 pub record Numbered : Type 0 where
   pub signals : List SignalDecl
   pub sites : List AsyncSite
@@ -56,17 +59,44 @@ first_or_default k (Some v) = v
 
 abbrev pub local_signal : SignalNode → SignalDecl
 local_signal d =
-    record { name = Some d.name; dir = dir.Local; kind = d.kind; first = first_or_default d.kind d.first; combine = d.combine; pos = d.pos }
+    record {
+      name = Some d.name;
+      dir = dir.Local;
+      kind = d.kind;
+      first = first_or_default d.kind d.first;
+      combine = d.combine;
+      pos = d.pos;
+    }
 
 -- the signal C of `abort count`
 abbrev pub counter_signal : Pos → SignalDecl
-counter_signal pos = record { name = None; dir = dir.Local; kind = kind.Pure; first = value.Unit; combine = None; pos = pos }
+counter_signal pos = record {
+  name = None;
+  dir = dir.Local;
+  kind = kind.Pure;
+  first = value.Unit;
+  combine =
+      None;
+  pos = pos;
+}
 
 abbrev pub with_signal : SignalDecl → Numbered → Numbered
-with_signal d n = record { signals = n.signals ++ d ∷ []; sites = n.sites; places = n.places; traps = n.traps }
+with_signal d n = record {
+  signals = n.signals ++ d ∷ [];
+  sites = n.sites;
+  places = n.places;
+  traps =
+      n.traps;
+}
 
 abbrev pub with_place : SignalDecl → Numbered → Numbered
-with_place d n = record { signals = n.signals ++ d ∷ []; sites = n.sites; places = n.places ++ length n.signals ∷ []; traps = n.traps }
+with_place d n = record {
+  signals = n.signals ++ d ∷ [];
+  sites = n.sites;
+  places = n.places
+      ++ length n.signals ∷ [];
+  traps = n.traps;
+}
 
 abbrev pub with_site : AsyncSite → Numbered → Numbered
 with_site a n = record { signals = n.signals; sites = n.sites ++ a ∷ []; places = n.places; traps = n.traps }
@@ -104,10 +134,21 @@ site_in_numbers before a =
 -- inside a run the module's interface are the signals bound to it
 abbrev pub inside_run : List (Binding ℕ) → Numbered → Numbered
 inside_run bindings n =
-    record { signals = n.signals; sites = n.sites; places = map (λ (b : Binding ℕ). number_of n b.right.name) bindings; traps = 0 }
+    record {
+      signals = n.signals;
+      sites = n.sites;
+      places =
+          map (λ (b : Binding ℕ). number_of n b.right.name) bindings;
+      traps = 0;
+    }
 
 abbrev pub behind_run : Numbered → Numbered → Numbered
-behind_run before after = record { signals = after.signals; sites = after.sites; places = before.places; traps = before.traps }
+behind_run before after = record {
+  signals = after.signals;
+  sites = after.sites;
+  places = before.places;
+  traps = before.traps;
+}
 
 abbrev pub no_traps : Around
 no_traps = record { traps = []; counter = 0 }
@@ -134,14 +175,20 @@ numbering modules pos =
       seq = of_two (λ n p q. Seq pos p q);
       par = of_two (λ n p q. Par pos p q);
       loop = round_one (λ n p. Loop pos p);
-      local = λ d p a n. let x = p a (with_place (local_signal d) n) in (Local pos (length n.signals) x.0, x.1);
+      local = λ d p a n. let x = p a (with_place (local_signal d) n) in
+          (Local pos (length n.signals) x.0, x.1);
       async = λ d a n. (Async pos (length n.sites), with_site (site_in_numbers n d) n);
       trap = λ p a n. let x = p (in_trap None a) n in (Trap pos x.0, x.1);
       exit = alone (λ n. Exit pos 0);
       named_trap = λ p a n. let x = p (in_trap (Some n.traps) a) (with_trap n) in (Trap pos x.0, x.1);
       leave = λ t a n. (Exit pos (traps_between t a.traps), n);
-      counter = λ p a n. let x = p (record { traps = a.traps; counter = length n.signals }) (with_signal (counter_signal pos) n) in (Local pos (length n.signals) x.0, x.1);
-      suspend_counted = λ p a n. let x = p a n in (Suspend pos (roll-Expr ℕ (record { pos = pos; node = node.Now a.counter })) x.0, x.1);
+      counter = λ p a n. let x = p (record { traps = a.traps; counter = length n.signals })
+          (with_signal (counter_signal pos) n) in (Local pos (length n.signals) x.0, x.1);
+      suspend_counted = λ p a n. let x = p a n in (
+        Suspend pos
+            (roll-Expr ℕ (record { pos = pos; node = node.Now a.counter })) x.0,
+        x.1,
+      );
       emit_counter = λ a n. (Emit pos a.counter None, n);
       run = λ m bindings a n. let x = modules m no_traps (inside_run bindings n) in (x.0, behind_run n x.1);
     }

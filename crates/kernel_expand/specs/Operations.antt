@@ -1,5 +1,6 @@
--- The kernel statements as operations on meanings of any kind, so that one table of the derived statements says both what they
--- expand to and how large that is. (Berry's kernel, The Constructive Semantics of Pure Esterel, and async, after HipHop.js.)
+-- The kernel statements as operations on meanings of any kind, so that one table of the derived statements
+-- says both what they expand to and how large that is. (Berry's kernel, The Constructive Semantics of Pure
+-- Esterel, and async, after HipHop.js.)
 use Rattle.std.specs.Prelude.{ℕ, Option, List}
 use Rattle.host_expr.specs.declared.expr.Expr.{Expr}
 use Rattle.module_tree.specs.declared.source.SignalNode.{SignalNode}

@@ -1,6 +1,6 @@
--- What the derived statements expand to, one line for each. `d` is the test of a delay, `p` the statement's body, and `exit`
--- leaves the trap that the row makes. (The statements are those of HipHop.js, Berry and Serrano, PLDI 2020; the rows are this
--- project's own.)
+-- What the derived statements expand to, one line for each. `d` is the test of a delay, `p` the statement's
+-- body, and `exit` leaves the trap that the row makes. (The statements are those of HipHop.js, Berry and
+-- Serrano, PLDI 2020; the rows are this project's own.)
 use Rattle.std.specs.Prelude.{ℕ, Option, List, [], ◌∷◌, replicate}
 use Rattle.host_expr.specs.declared.expr.Expr.{Expr}
 use Rattle.kernel_expand.specs.Operations.{Operations}
@@ -44,7 +44,8 @@ abort_immediate k d p = k.choice d k.nothing (abort k d p)
 
 abbrev pub abort_count : {X : Type 0} → Operations X → ℕ → Expr ℕ → X → X
 abort_count k n d p =
-    k.trap (k.counter (k.par (k.seq (k.suspend_counted p) k.exit) (listed k (await_count k n d ∷ k.emit_counter ∷ k.exit ∷ []))))
+    k.trap (k.counter (k.par (k.seq (k.suspend_counted p) k.exit)
+    (listed k (await_count k n d ∷ k.emit_counter ∷ k.exit ∷ []))))
 
 abbrev pub weak_abort : {X : Type 0} → Operations X → Expr ℕ → X → X
 weak_abort k d p = k.trap (k.par (k.seq p k.exit) (waiting k d))

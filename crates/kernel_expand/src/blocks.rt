@@ -54,7 +54,8 @@ fn of_branches(
     blocks: &[BlockNode<u32>],
     modules: &[Sizes],
 ) -> Result<Sizes, NoMemory>
-    ensures { IfOk result (λ s. s ≡ row.forked sizes (map (of_block (measure (known modules.now))) blocks.now)) }
+    ensures { IfOk result (λ s. s ≡ row.forked sizes
+        (map (of_block (measure (known modules.now))) blocks.now)) }
 {
     let mut branches = Vec::with_capacity(alloc, blocks.len())?;
     for block in blocks {
@@ -69,7 +70,8 @@ fn of_statement(
     statement: &Statement<u32>,
     modules: &[Sizes],
 ) -> Result<Sizes, NoMemory>
-    ensures { (pos : APos) → IfOk result (λ s. s ≡ of_statement (measure (known modules.now)) statement.now pos) }
+    ensures { (pos : APos) → IfOk result (λ s. s ≡ of_statement (measure (known modules.now)) statement.now
+        pos) }
 {
     Ok(match statement {
         Statement::Nothing | Statement::Pause | Statement::Break(_) => Sizes::leaf(0),

@@ -27,7 +27,8 @@ fn modules<'a>(alloc: Global, parts: &'a [Part<u32>]) -> Result<Vec<&'a ModuleNo
     Ok(modules)
 }
 
-/// The sizes of the kernel program that a text expands to. The program is not written out: each module is measured
+/// The sizes of the kernel program that a text expands to. The program is not written out: each module is
+/// measured
 /// once, and a run counts as the body of its module.
 pub fn measure(alloc: Global, linked: &Linked) -> Result<Sizes, NoMemory>
     ensures { IfOk result (λ s. s ≡ sizes_of_kernel (kernel_of_expansion (expansion_of linked.now))) }

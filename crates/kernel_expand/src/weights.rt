@@ -85,7 +85,8 @@ fn of_handler(handler: &Option<Text>) -> u64
 }
 
 fn of_arguments(arguments: &[ExprAt<u32>]) -> u64
-    ensures { result ≡ counted (sum_by (λ (x : AExprAt ℕ). size_of_expression (expression_of x.expr)) arguments.now) }
+    ensures { result ≡ counted (sum_by (λ (x : AExprAt ℕ). size_of_expression (expression_of x.expr))
+        arguments.now) }
 {
     let mut weight: u64 = 0;
     for argument in arguments {

@@ -4,4 +4,5 @@ use Rattle.module_tree.specs.Callables.{modules_of}
 use Rattle.kernel_expand.proofs.measure.modules.Given as goal
 
 abbrev pub invariant-loop-part : goal.invariant-loop-part
-invariant-loop-part l = map (λ (m : Bor (ModuleNode ℕ)). m.now) l.modules.items ≡ modules_of (take l.part-index l.parts)
+invariant-loop-part l = map (λ (m : Bor (ModuleNode ℕ)). m.now) l.modules.items ≡ modules_of
+    (take l.part-index l.parts)

@@ -6,5 +6,6 @@ use Rattle.kernel_expand.proofs.rows.abort_count.Goals as goal
 
 pub returns : goal.returns
 returns c =
-    let list = three_items (both 0) (leaf 0 0) (row.await_count sizes c.args.times (test_of c.args.test.now)) (leaf 0 0) (leaf 0 0) in
+    let list = three_items (both 0) (leaf 0 0) (row.await_count sizes c.args.times
+    (test_of c.args.test.now)) (leaf 0 0) (leaf 0 0) in
     cc

@@ -7,4 +7,5 @@ use Rattle.kernel_expand.specs.Measures.{counted}
 use Rattle.kernel_expand.proofs.weights.of_arguments.Given as goal
 
 abbrev pub invariant-loop-argument : goal.invariant-loop-argument
-invariant-loop-argument l = l.weight ≡ counted (sum_by (λ (x : ExprAt ℕ). size_of_expression (expression_of x.expr)) (take l.argument-index l.arguments))
+invariant-loop-argument l = l.weight ≡ counted (sum_by
+    (λ (x : ExprAt ℕ). size_of_expression (expression_of x.expr)) (take l.argument-index l.arguments))

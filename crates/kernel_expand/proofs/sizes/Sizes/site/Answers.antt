@@ -6,4 +6,6 @@ use Rattle.kernel_expand.proofs.sizes.Sizes.site.Goals as goal
 
 pub returns : goal.returns
 unfolding leaf
-returns c = same_sizes (ap (λ (s : Sizes). s.size) c.leaf.ensures) (ap (λ (s : Sizes). s.copied) c.leaf.ensures) (ap (λ (s : Sizes). s.height) c.leaf.ensures) (ap (λ (s : Sizes). s.traps) c.leaf.ensures) refl
+returns c = same_sizes (ap (λ (s : Sizes). s.size) c.leaf.ensures)
+    (ap (λ (s : Sizes). s.copied) c.leaf.ensures) (ap (λ (s : Sizes). s.height) c.leaf.ensures)
+    (ap (λ (s : Sizes). s.traps) c.leaf.ensures) refl
