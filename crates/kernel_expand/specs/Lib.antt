@@ -1,0 +1,10 @@
+pub mod Operations
+pub mod Halves
+pub mod Rows
+pub mod Interpretation
+pub mod Modules
+pub mod Measures
+pub mod Renaming
+pub mod Numbering
+pub mod Expansion
+pub mod Weighed
