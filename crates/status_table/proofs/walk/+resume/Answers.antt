@@ -21,13 +21,11 @@ returns-in_ok-answer-in-Async-Async t c =
     let at = c.args.at in
     let b0 = c.args.pass.now in
     let a = c.in-Async-Async.a in
-    let q : c.as_slice.result.now ≡ a.queue = c.as_slice.ensures in
-    let q' : c.as_slice-in-Async-Async.result.now ≡ a.queue = c.as_slice-in-Async-Async.ensures in
     resumed_as T τ (statement_of c.args.term.now) (Async c.in-Async-Async.n) (Resume (selection_of c.args.mark.now)) (Resume (AtAsync a.id a.args a.queue a.suspended)) at.depth at.level at.sure c.gives-in-Async-Async.result c.gives-in-Async-Async.result c.gives-in-Async-Async.new.codes b0 c.answer.new.pass
     (ap node_statement c.in-Async-Async.is-0) (ap (λ x. Resume (selection_of x)) c.in-Async-Async.is-1) refl
     (async_met T τ c.in-Async-Async.n at.depth at.level a.id a.args a.queue a.suspended at.sure c.gives-in-Async-Async.result c.first_code.result c.gives-in-Async-Async.new.codes b0 c.answer.new.pass
-    (c.first_code.ensures ∙ ap first_code q')
-    (subst (λ z. Counted T (gives (first_bag (T.target c.in-Async-Async.n) z) (first_code a.queue) (index_of at.sure)) b0 c.answer.new.pass) q (c.in_ok-answer-in-Async-Async.ensures (first_code a.queue)))
+    c.first_code.ensures
+    (c.in_ok-answer-in-Async-Async.ensures (first_code a.queue))
     c.gives-in-Async-Async.ensures.code c.gives-in-Async-Async.ensures.codes)
 
 pub returns-in_ok-end-in-If-First : goal.returns-in_ok-end-in-If-First
