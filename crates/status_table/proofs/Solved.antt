@@ -13,9 +13,11 @@ use Rattle.status_table.proofs.FlatLaws.{flat_above, flat_below}
 use Rattle.status_table.proofs.Rounds.{kept, bounded_start, index_same}
 use Rattle.status_table.proofs.FlatStepLaws.{flat_step_is}
 
-reached_bounded : (T : Table) (p : Statement) (t : Task) (i : Index) (E : Env) (τ : Cells) → Unique p → Reached T p t i E τ → Bounded T τ p 0 0 t i E
+reached_bounded : (T : Table) (p : Statement) (t : Task) (i : Index) (E : Env) (τ : Cells) → Unique p →
+    Reached T p t i E τ → Bounded T τ p 0 0 t i E
 reached_bounded T p t i E τ u unknown_all = bounded_start T p 0 0 t i E
-reached_bounded T p t i E τ u (moved {τ = τ0} r m) = kept T τ0 τ p 0 0 t i i E E (index_same i) (env_refl E) (omega arith) u (reached_bounded T p t i E τ0 u r) m
+reached_bounded T p t i E τ u (moved {τ = τ0} r m) = kept T τ0 τ p 0 0 t i i E E (index_same i) (env_refl E)
+    (omega arith) u (reached_bounded T p t i E τ0 u r) m
 
 pub standing_is_solved : StandingIsSolved
 standing_is_solved T p t i E τ u r h = (

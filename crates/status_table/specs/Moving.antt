@@ -1,4 +1,5 @@
--- Rounds over a flat table: what they may change, and the tables that they reach from nothing known. (This project's own.)
+-- Rounds over a flat table: what they may change, and the tables that they reach from nothing known. (This
+-- project's own.)
 use Rattle.std.specs.Prelude.{◌≡◌, ℕ, suc, ◌≤◌, ◌⊎◌}
 use Rattle.hh_base.specs.declared.value.Tri.TheVariants.{Unknown}
 use Rattle.host_expr.specs.declared.cell.Cell.TheVariants as cell
@@ -41,7 +42,8 @@ LevelOk d l (Resume m) n = (n ≡ l) ⊎ (suc d ≤ n)
 
 -- each cell of the statement stays, or takes what the pass puts
 abbrev pub Moves : Table → Cells → Cells → Statement → ℕ → ℕ → Task → Index → Env → Type 0
-Moves T τ τ' p d l t i E = (s n : ℕ) → Has p s → LevelOk d l t n → (τ' s n ≡ τ s n) ⊎ Puts T τ p d l t i E s n (τ' s n)
+Moves T τ τ' p d l t i E = (s n : ℕ) → Has p s → LevelOk d l t n → (τ' s n ≡ τ s n) ⊎ Puts T τ p d l t i E s n
+    (τ' s n)
 
 -- nothing is known
 abbrev pub nothing_known : Cells

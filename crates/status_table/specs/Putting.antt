@@ -23,20 +23,29 @@ PutsHeld (cell.Faulted _ _) i P = P i
 
 -- a pass over the table puts this at this place
 abbrev pub Puts : Table → Cells → Statement → ℕ → ℕ → Task → Index → Env → ℕ → ℕ → Tri × Cell → Type 0
-Puts T τ (If e p q) d l Start i E s n v = PutsChosen (eval_of e E []) i (λ j. Puts T τ p d l Start j E s n v) (λ j. Puts T τ q d l Start j E s n v)
+Puts T τ (If e p q) d l Start i E s n v = PutsChosen (eval_of e E []) i (λ j. Puts T τ p d l Start j E s n v)
+    (λ j. Puts T τ q d l Start j E s n v)
 Puts T τ (If e p q) d l (Resume (First m)) i E s n v = Puts T τ p d l (Resume m) i E s n v
 Puts T τ (If e p q) d l (Resume (Second m)) i E s n v = Puts T τ q d l (Resume m) i E s n v
 Puts T τ (Suspend e p) d l Start i E s n v = Puts T τ p d l Start i E s n v
-Puts T τ (Suspend e p) d l (Resume (Inside m)) i E s n v = PutsHeld (eval_of e E []) i (λ j. Puts T τ p d l (Resume m) j E s n v)
-Puts T τ (Seq p q) d l Start i E s n v = Puts T τ p d l Start i E s n v ⊎ Pick ((flat T τ p d l Start i E).codes 0) (Puts T τ q d l Start (is_end (flat T τ p d l Start i E).code) E s n v) ⊥
-Puts T τ (Seq p q) d l (Resume (First m)) i E s n v = Puts T τ p d l (Resume m) i E s n v ⊎ Pick ((flat T τ p d l (Resume m) i E).codes 0) (Puts T τ q d l Start (is_end (flat T τ p d l (Resume m) i E).code) E s n v) ⊥
+Puts T τ (Suspend e p) d l (Resume (Inside m)) i E s n v = PutsHeld (eval_of e E []) i
+    (λ j. Puts T τ p d l (Resume m) j E s n v)
+Puts T τ (Seq p q) d l Start i E s n v = Puts T τ p d l Start i E s n v ⊎ Pick
+    ((flat T τ p d l Start i E).codes 0)
+    (Puts T τ q d l Start (is_end (flat T τ p d l Start i E).code) E s n v) ⊥
+Puts T τ (Seq p q) d l (Resume (First m)) i E s n v = Puts T τ p d l (Resume m) i E s n v ⊎ Pick
+    ((flat T τ p d l (Resume m) i E).codes 0)
+    (Puts T τ q d l Start (is_end (flat T τ p d l (Resume m) i E).code) E s n v) ⊥
 Puts T τ (Seq p q) d l (Resume (Second m)) i E s n v = Puts T τ q d l (Resume m) i E s n v
 Puts T τ (Par p q) d l Start i E s n v = Puts T τ p d l Start i E s n v ⊎ Puts T τ q d l Start i E s n v
 Puts T τ (Par p q) d l (Resume (First m)) i E s n v = Puts T τ p d l (Resume m) i E s n v
 Puts T τ (Par p q) d l (Resume (Second m)) i E s n v = Puts T τ q d l (Resume m) i E s n v
-Puts T τ (Par p q) d l (Resume (Both m m')) i E s n v = Puts T τ p d l (Resume m) i E s n v ⊎ Puts T τ q d l (Resume m') i E s n v
+Puts T τ (Par p q) d l (Resume (Both m m')) i E s n v = Puts T τ p d l (Resume m) i E s n v ⊎ Puts T τ q d l
+    (Resume m') i E s n v
 Puts T τ (Loop p) d l Start i E s n v = Puts T τ p (suc d) l Start i E s n v
-Puts T τ (Loop p) d l (Resume (Inside m)) i E s n v = Puts T τ p (suc d) l (Resume m) i E s n v ⊎ Pick ((flat T τ p (suc d) l (Resume m) i E).codes 0) (Puts T τ p (suc d) (suc d) Start (is_end (flat T τ p (suc d) l (Resume m) i E).code) E s n v) ⊥
+Puts T τ (Loop p) d l (Resume (Inside m)) i E s n v = Puts T τ p (suc d) l (Resume m) i E s n v ⊎ Pick
+    ((flat T τ p (suc d) l (Resume m) i E).codes 0)
+    (Puts T τ p (suc d) (suc d) Start (is_end (flat T τ p (suc d) l (Resume m) i E).code) E s n v) ⊥
 Puts T τ (Trap p) d l Start i E s n v = Puts T τ p d l Start i E s n v
 Puts T τ (Trap p) d l (Resume (Inside m)) i E s n v = Puts T τ p d l (Resume m) i E s n v
 Puts T τ (Local u p) d l Start i E s n v =

@@ -26,20 +26,28 @@ HeldAt (cell.Faulted _ _) j P = P j
 
 -- a round over the table would change no cell that a pass meets
 abbrev pub Stands : Table → Cells → Statement → ℕ → ℕ → Task → Index → Env → Type 0
-Stands T τ (If e p q) d l Start i E = ChosenAt (eval_of e E []) i (λ j. Stands T τ p d l Start j E) (λ j. Stands T τ q d l Start j E)
+Stands T τ (If e p q) d l Start i E = ChosenAt (eval_of e E []) i (λ j. Stands T τ p d l Start j E)
+    (λ j. Stands T τ q d l Start j E)
 Stands T τ (If e p q) d l (Resume (First m)) i E = Stands T τ p d l (Resume m) i E
 Stands T τ (If e p q) d l (Resume (Second m)) i E = Stands T τ q d l (Resume m) i E
 Stands T τ (Suspend e p) d l Start i E = Stands T τ p d l Start i E
-Stands T τ (Suspend e p) d l (Resume (Inside m)) i E = HeldAt (eval_of e E []) i (λ j. Stands T τ p d l (Resume m) j E)
-Stands T τ (Seq p q) d l Start i E = Stands T τ p d l Start i E × Pick ((flat T τ p d l Start i E).codes 0) (Stands T τ q d l Start (is_end (flat T τ p d l Start i E).code) E) (Unit {0})
-Stands T τ (Seq p q) d l (Resume (First m)) i E = Stands T τ p d l (Resume m) i E × Pick ((flat T τ p d l (Resume m) i E).codes 0) (Stands T τ q d l Start (is_end (flat T τ p d l (Resume m) i E).code) E) (Unit {0})
+Stands T τ (Suspend e p) d l (Resume (Inside m)) i E = HeldAt (eval_of e E []) i
+    (λ j. Stands T τ p d l (Resume m) j E)
+Stands T τ (Seq p q) d l Start i E = Stands T τ p d l Start i E × Pick ((flat T τ p d l Start i E).codes 0)
+    (Stands T τ q d l Start (is_end (flat T τ p d l Start i E).code) E) (Unit {0})
+Stands T τ (Seq p q) d l (Resume (First m)) i E = Stands T τ p d l (Resume m) i E × Pick
+    ((flat T τ p d l (Resume m) i E).codes 0)
+    (Stands T τ q d l Start (is_end (flat T τ p d l (Resume m) i E).code) E) (Unit {0})
 Stands T τ (Seq p q) d l (Resume (Second m)) i E = Stands T τ q d l (Resume m) i E
 Stands T τ (Par p q) d l Start i E = Stands T τ p d l Start i E × Stands T τ q d l Start i E
 Stands T τ (Par p q) d l (Resume (First m)) i E = Stands T τ p d l (Resume m) i E
 Stands T τ (Par p q) d l (Resume (Second m)) i E = Stands T τ q d l (Resume m) i E
-Stands T τ (Par p q) d l (Resume (Both m n)) i E = Stands T τ p d l (Resume m) i E × Stands T τ q d l (Resume n) i E
+Stands T τ (Par p q) d l (Resume (Both m n)) i E = Stands T τ p d l (Resume m) i E × Stands T τ q d l
+    (Resume n) i E
 Stands T τ (Loop p) d l Start i E = Stands T τ p (suc d) l Start i E
-Stands T τ (Loop p) d l (Resume (Inside m)) i E = Stands T τ p (suc d) l (Resume m) i E × Pick ((flat T τ p (suc d) l (Resume m) i E).codes 0) (Stands T τ p (suc d) (suc d) Start (is_end (flat T τ p (suc d) l (Resume m) i E).code) E) (Unit {0})
+Stands T τ (Loop p) d l (Resume (Inside m)) i E = Stands T τ p (suc d) l (Resume m) i E × Pick
+    ((flat T τ p (suc d) l (Resume m) i E).codes 0)
+    (Stands T τ p (suc d) (suc d) Start (is_end (flat T τ p (suc d) l (Resume m) i E).code) E) (Unit {0})
 Stands T τ (Trap p) d l Start i E = Stands T τ p d l Start i E
 Stands T τ (Trap p) d l (Resume (Inside m)) i E = Stands T τ p d l (Resume m) i E
 Stands T τ (Local s p) d l Start i E =

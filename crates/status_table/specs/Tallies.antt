@@ -1,6 +1,8 @@
--- What is kept of the emissions of one signal while a round meets them: how many must and can be, whether all that must be are
+-- What is kept of the emissions of one signal while a round meets them: how many must and can be, whether all
+-- that must be are
 -- known, and what their values combine to so far. (This project's own.)
-use Rattle.std.specs.Prelude.{◌≡◌, Bool, true, false, ◌&&◌, ◌||◌, ◌==◌, Option, Some, None, List, [], ◌∷◌, ◌++◌, ℤ, pos, ◌+ℤ◌, length, map, if◌then◌else◌}
+use Rattle.std.specs.Prelude.{◌≡◌, Bool, true, false, ◌&&◌, ◌||◌, ◌==◌, Option, Some, None, List, [], ◌∷◌}
+use Rattle.std.specs.Prelude.{◌++◌, ℤ, pos, ◌+ℤ◌, length, map, if◌then◌else◌}
 use Rattle.std.specs.Int.{int_min, int_max}
 use Rattle.hh_base.specs.declared.value.Kind.{Kind}
 use Rattle.hh_base.specs.declared.value.Value.{Value}
@@ -12,7 +14,8 @@ use Rattle.hh_base.specs.Value.{default_of}
 use Rattle.host_expr.specs.Combination.{counts_as, in_range}
 use Rattle.hh_term.specs.MustCan.{all_known}
 use Rattle.status_table.specs.declared.tally.Running.{Running}
-use Rattle.status_table.specs.declared.tally.Running.TheVariants.{Nothing, Single, Sum, Least, Greatest, All, Any, Several}
+use Rattle.status_table.specs.declared.tally.Running.TheVariants.{Nothing, Single, Sum, Least, Greatest, All}
+use Rattle.status_table.specs.declared.tally.Running.TheVariants.{Any, Several}
 use Rattle.status_table.specs.declared.tally.Tally.{Tally}
 
 abbrev pub number_of : Value → Option ℤ
@@ -89,12 +92,19 @@ value_of k Several = default_of k
 
 -- the tally of the cells that must be and that can be
 abbrev pub tally_of : Kind → Option CombineWord → List Cell → List Cell → Tally
-tally_of k w must can = record { must = length must; can = length can; known = all_known must; running = running_of w (map (counts_as k) must) }
+tally_of k w must can = record {
+  must = length must;
+  can = length can;
+  known = all_known must;
+  running = running_of w
+      (map (counts_as k) must);
+}
 
 -- all that can be must be, and is known
 abbrev pub is_whole : List Cell → List Cell → Bool
 is_whole must can = (length must == length can) && all_known must
 
 -- these cells more
-pub record Adds (k : Kind) (w : Option CombineWord) (before after : Tally) (must can : List Cell) : Type 0 where
-  pub adds : (m c : List Cell) → before ≡ tally_of k w m c → after ≡ tally_of k w (m ++ must) (c ++ can)
+pub record Adds (k : Kind) (w : Option CombineWord) (before after : Tally) (must can : List Cell) : Type 0
+  where
+    pub adds : (m c : List Cell) → before ≡ tally_of k w m c → after ≡ tally_of k w (m ++ must) (c ++ can)

@@ -1,5 +1,6 @@
 -- How the values of the code stand for a walk of a round over a statement. (This project's own.)
-use Rattle.std.specs.Prelude.{◌≡◌, ℕ, suc, ◌<◌, Bool, true, false, cond, Option, Some, None, List, [], ◌∷◌, ◌++◌, length}
+use Rattle.std.specs.Prelude.{◌≡◌, ℕ, suc, ◌<◌, Bool, true, false, cond, Option, Some, None, List, [], ◌∷◌}
+use Rattle.std.specs.Prelude.{◌++◌, length}
 use Rattle.hh_base.specs.declared.value.Tri.{Tri}
 use Rattle.hh_base.specs.declared.value.Tri.TheVariants.{Unknown}
 use Rattle.host_expr.specs.declared.cell.Cell.{Cell}
@@ -8,7 +9,8 @@ use Rattle.host_expr.specs.Environment.{Env, env_of}
 use Rattle.host_expr.specs.Evaluation.{truth}
 use Rattle.hh_term.specs.Statement.{Statement, If, Suspend, Seq, Par, Loop, Trap, Local}
 use Rattle.hh_term.specs.Selection.{Task}
-use Rattle.hh_term.specs.MustCan.{Table, MustCan, Bag, Index, Executed, Possible, cells_of, answer_bag, answer_code}
+use Rattle.hh_term.specs.MustCan.{Table, MustCan, Bag, Index, Executed, Possible, cells_of, answer_bag}
+use Rattle.hh_term.specs.MustCan.{answer_code}
 use Rattle.hh_base.specs.declared.item.Item.{Item}
 use Rattle.hh_term.specs.Flags.{Agrees}
 use Rattle.status_table.specs.declared.tally.Tally.{Tally}
@@ -52,7 +54,8 @@ tested cell.Unknown = test.Undecided
 tested (cell.Known v) = cond (truth v) test.Holds test.Fails
 tested (cell.Faulted _ _) = test.Fails
 
--- the locals of the statement are below `signals`, and loops round its parts number less than `levels`, d being round it
+-- the locals of the statement are below `signals`, and loops round its parts number less than `levels`, d
+-- being round it
 abbrev pub Fits : ℕ → ℕ → ℕ → Statement → Type 0
 Fits signals levels d (If e p q) = Fits signals levels d p × Fits signals levels d q
 Fits signals levels d (Suspend e p) = Fits signals levels d p
@@ -75,7 +78,8 @@ tally_in tallies s t = slice_get tallies s ≡ Some t
 pub record Tallied (T : Table) (a : MustCan) (before after : List Tally) : Type 0 where
   pub count : length after ≡ length before
   pub adds : (s : ℕ) (t : Tally) → slice_get before s ≡ Some t →
-      (u : Tally) × (slice_get after s ≡ Some u) × Adds (T.kind s) (T.word s) t u (cells_of s a.must) (cells_of s a.can)
+      (u : Tally) × (slice_get after s ≡ Some u) × Adds (T.kind s) (T.word s) t u (cells_of s a.must)
+      (cells_of s a.can)
 
 -- these emissions were counted, and nothing else changed
 pub record Counted (T : Table) (a : MustCan) (before after : Pass) : Type 0 where
@@ -94,14 +98,16 @@ first_code [] = 1
 first_code (a ∷ as') = answer_code a.last
 
 -- the raises met, each one that the round puts; where there is none, the table stands
-pub record Raised (stands : Type 0) (puts : ℕ → ℕ → Tri × Cell → Type 0) (before after : List Raise) : Type 0 where
-  pub news : List Raise
-  pub is : after ≡ before ++ news
-  pub put : AllPut puts news
-  pub still : news ≡ [] → stands
+pub record Raised (stands : Type 0) (puts : ℕ → ℕ → Tri × Cell → Type 0) (before after : List Raise) : Type 0
+  where
+    pub news : List Raise
+    pub is : after ≡ before ++ news
+    pub put : AllPut puts news
+    pub still : news ≡ [] → stands
 
 -- a walk met these emissions and codes
-pub record Met (T : Table) (a : MustCan) (stands : Type 0) (puts : ℕ → ℕ → Tri × Cell → Type 0) (end : Option ℕ) (flags : List Bool) (before after : Pass) : Type 0 where
+pub record Met (T : Table) (a : MustCan) (stands : Type 0) (puts : ℕ → ℕ → Tri × Cell → Type 0)
+    (end : Option ℕ) (flags : List Bool) (before after : Pass) : Type 0 where
   pub code : end ≡ a.code
   pub codes : Agrees flags a.codes
   pub signals : after.cells.signals.items ≡ before.cells.signals.items
@@ -109,10 +115,12 @@ pub record Met (T : Table) (a : MustCan) (stands : Type 0) (puts : ℕ → ℕ �
   pub tallies : Tallied T a before.tallies.items after.tallies.items
   pub raised : Raised stands puts before.raised.items after.raised.items
 
-abbrev pub Visited : Table → Cells → Statement → ℕ → ℕ → Task → Bool → Option ℕ → List Bool → Pass → Pass → Type 0
+abbrev pub Visited : Table → Cells → Statement → ℕ → ℕ → Task → Bool → Option ℕ → List Bool → Pass → Pass →
+    Type 0
 Visited T τ p d l t sure end flags before after =
     let E : Env = env_of before.cells.signals.items in
-    Met T (flat T τ p d l t (index_of sure) E) (Stands T τ p d l t (index_of sure) E) (λ s n v. Puts T τ p d l t (index_of sure) E s n v) end flags before after
+    Met T (flat T τ p d l t (index_of sure) E) (Stands T τ p d l t (index_of sure) E)
+    (λ s n v. Puts T τ p d l t (index_of sure) E s n v) end flags before after
 
 -- a scope was entered: its signal has this cell and no emission so far, and what it had is kept
 pub record Entered (s : ℕ) (c : SigCell) (outer : Outer) (before after : Pass) : Type 0 where
@@ -130,7 +138,8 @@ abbrev pub Concludes : Kind → ℕ → ℕ → SigCell → Tally → List Raise
 Concludes k s l c u before after =
     (w : Option CombineWord) (m d : List Cell) → u ≡ tally_of k w m d →
     ((after ≡ before) × (status_by m d ≡ c.status) × (value_by k w c.preval m d ≡ c.value))
-    ⊎ ((r : Raise) × (after ≡ before ++ r ∷ []) × (r.signal ≡ s) × (r.level ≡ l) × (r.known.status ≡ status_by m d) × (r.known.value ≡ value_by k w c.preval m d))
+    ⊎ ((r : Raise) × (after ≡ before ++ r ∷ []) × (r.signal ≡ s) × (r.level ≡ l) ×
+    (r.known.status ≡ status_by m d) × (r.known.value ≡ value_by k w c.preval m d))
 
 -- a scope was left
 pub record Left (k : Kind) (s l : ℕ) (outer : Outer) (before after : Pass) : Type 0 where

@@ -1,4 +1,5 @@
--- A whole program over a flat table: the interface signals as cells of the environment, and what rounds make of both. (This project's
+-- A whole program over a flat table: the interface signals as cells of the environment, and what rounds make
+-- of both. (This project's
 -- own.)
 use Rattle.std.specs.Prelude.{◌≡◌, ℕ, Bool, true, false, ◌==◌, Option, Some, None, List, [], ◌∷◌, ◌⊎◌}
 use Rattle.hh_base.specs.declared.value.Tri.{Tri}
@@ -44,7 +45,9 @@ Different (o ∷ os) = NotIn o.signal os × Different os
 -- each interface cell stays, or takes what a pass makes of it
 abbrev pub MovesAll : Table → List Outer → MustCan → Env → Env → Type 0
 MovesAll T [] a F F' = Unit {0}
-MovesAll T (o ∷ os) a F F' = ((F' o.signal ≡ F o.signal) ⊎ (F' o.signal ≡ raised T o.signal (F o.signal) (with_given o (scopes os a)))) × MovesAll T os a F F'
+MovesAll T (o ∷ os) a F F' =
+    ((F' o.signal ≡ F o.signal) ⊎ (F' o.signal ≡ raised T o.signal (F o.signal) (with_given o (scopes os a))))
+    × MovesAll T os a F F'
 
 -- before the first round nothing is known of an interface signal but its previous status and value
 abbrev pub opened : List Outer → Env
@@ -74,4 +77,5 @@ program_flat_step T τ p Ended E = Some (record { stepped = idle; code = None })
 -- the environments and tables that rounds reach
 pub data Reaches (T : Table) (os : List Outer) (p : Statement) (c : Control) : Env → Cells → Type 0 where
   begins : Reaches T os p c (opened os) nothing_known
-  goes_on : {F F' : Env} {τ τ' : Cells} → Reaches T os p c F τ → MovesAll T os (program_flat T τ p c F) F F' → ((s : ℕ) → NotIn s os → F' s ≡ F s) → ProgramMoves T τ τ' p c F → Reaches T os p c F' τ'
+  goes_on : {F F' : Env} {τ τ' : Cells} → Reaches T os p c F τ → MovesAll T os (program_flat T τ p c F) F F' →
+      ((s : ℕ) → NotIn s os → F' s ≡ F s) → ProgramMoves T τ τ' p c F → Reaches T os p c F' τ'

@@ -108,7 +108,8 @@ impl Statuses {
     ) -> Result<Outer, NoMemory>
         requires cell { signal < length pass.old.cells.signals.items }
         requires tally { signal < length pass.old.tallies.items }
-        ensures { IfOk result (λ o. Entered signal (cell_with (cells_in self.now signal level) pre before.now) o pass.old pass.new) }
+        ensures { IfOk result (λ o. Entered signal (cell_with (cells_in self.now signal level) pre before.now)
+            o pass.old pass.new) }
     {
         let inner = self.cell(alloc, signal, level, pre, before)?;
         let cell = mem::replace(&mut pass.cells.signals[signal as usize], inner);
@@ -157,7 +158,8 @@ pub fn add_executed(
     cell: Cell,
     tallies: &mut Vec<Tally>,
 ) -> Result<(), NoMemory>
-    ensures { OnOk result (Tallied (table_of (kernel_of program.now)) (gives ((signal, cell) ∷ []) 0 Executed) tallies.old.items tallies.new.items) }
+    ensures { OnOk result (Tallied (table_of (kernel_of program.now)) (gives ((signal, cell) ∷ []) 0 Executed)
+        tallies.old.items tallies.new.items) }
 {
     let at = signal as usize;
     if at < tallies.len() {
@@ -174,7 +176,8 @@ pub fn add_possible(
     signal: u32,
     tallies: &mut Vec<Tally>,
 ) -> Result<(), NoMemory>
-    ensures { OnOk result ((cell : ACell) → Tallied (table_of (kernel_of _program.now)) (gives ((signal, cell) ∷ []) 0 Possible) tallies.old.items tallies.new.items) }
+    ensures { OnOk result ((cell : ACell) → Tallied (table_of (kernel_of _program.now))
+        (gives ((signal, cell) ∷ []) 0 Possible) tallies.old.items tallies.new.items) }
 {
     let at = signal as usize;
     if at < tallies.len() {

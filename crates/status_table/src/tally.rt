@@ -7,7 +7,8 @@ ghost use Rattle.host_expr.specs.Environment.{is_known};
 ghost use Rattle.hh_base.specs.declared.value.CombineWord.{CombineWord as AWord};
 ghost use Rattle.std.specs.Prelude.{Option as AnOption, ℕ};
 ghost use Rattle.hh_term.specs.MustCan.{status_by, value_by};
-ghost use Rattle.status_table.specs.Tallies.{Adds, tally_of, is_whole, number_of, sum_with, lesser, larger, both, any, met, unit_of, joined, value_of};
+ghost use Rattle.status_table.specs.Tallies.{Adds, tally_of, is_whole, number_of, sum_with, lesser, larger};
+ghost use Rattle.status_table.specs.Tallies.{both, any, met, unit_of, joined, value_of};
 
 use hh_base::value::{
     CombineWord, FaultKind, Kind, NoMemory, Pos, Tri, Value, default_of, same_value,
@@ -223,14 +224,16 @@ impl Tally {
 
     /// An emission that only can be.
     pub fn add_possible(self) -> Result<Tally, NoMemory>
-        ensures { IfOk result (λ t. (k : Kind) (w : AnOption AWord) (cell : ACell) → Adds k w self t [] (cell ∷ [])) }
+        ensures { IfOk result (λ t. (k : Kind) (w : AnOption AWord) (cell : ACell) → Adds k w self t []
+            (cell ∷ [])) }
     {
         let can = one_more(self.can)?;
         Ok(Tally { can, ..self })
     }
 
     fn status(&self) -> Tri
-        ensures { (k : Kind) (w : AnOption AWord) (m c : List ACell) → self.now ≡ tally_of k w m c → result ≡ status_by m c }
+        ensures { (k : Kind) (w : AnOption AWord) (m c : List ACell) → self.now ≡ tally_of k w m c → result ≡
+            status_by m c }
     {
         if self.must > 0 {
             Tri::One
@@ -243,13 +246,15 @@ impl Tally {
 
     /// All that can be must be, and is known.
     fn is_whole(&self) -> bool
-        ensures { (k : Kind) (w : AnOption AWord) (m c : List ACell) → self.now ≡ tally_of k w m c → result ≡ is_whole m c }
+        ensures { (k : Kind) (w : AnOption AWord) (m c : List ACell) → self.now ≡ tally_of k w m c → result ≡
+            is_whole m c }
     {
         self.must == self.can && self.known
     }
 
     fn value(self, alloc: Global, kind: Kind, before: Value) -> Cell
-        ensures { (w : AnOption AWord) (m c : List ACell) → self ≡ tally_of kind w m c → result ≡ value_by kind w before m c }
+        ensures { (w : AnOption AWord) (m c : List ACell) → self ≡ tally_of kind w m c → result ≡ value_by
+            kind w before m c }
     {
         if self.can == 0 {
             return Cell::Known(before);
@@ -262,8 +267,10 @@ impl Tally {
 
     /// The status and the value that a round gives to a signal with this previous value.
     pub fn solved(self, alloc: Global, kind: Kind, before: Value) -> Known
-        ensures status { (w : AnOption AWord) (m c : List ACell) → self ≡ tally_of kind w m c → result.status ≡ status_by m c }
-        ensures value { (w : AnOption AWord) (m c : List ACell) → self ≡ tally_of kind w m c → result.value ≡ value_by kind w before m c }
+        ensures status { (w : AnOption AWord) (m c : List ACell) → self ≡ tally_of kind w m c → result.status
+            ≡ status_by m c }
+        ensures value { (w : AnOption AWord) (m c : List ACell) → self ≡ tally_of kind w m c → result.value ≡
+            value_by kind w before m c }
     {
         let status = self.status();
         let value = self.value(alloc, kind, before);

@@ -6,13 +6,15 @@ ghost use Rattle.host_expr.specs.Environment.{env_of, environment_of};
 ghost use Rattle.host_expr.specs.Expression.{expression_of, optional_expression};
 ghost use Rattle.hh_term.specs.Codes.{only};
 ghost use Rattle.hh_term.specs.Flags.{Agrees};
-ghost use Rattle.hh_term.specs.MustCan.{table_of, emitted, greater as greater_code, lower, lower_code, go_on as go_on_code, is_end, answer_bag, gives as gives_all};
+ghost use Rattle.hh_term.specs.MustCan.{table_of, emitted, greater as greater_code, lower, lower_code};
+ghost use Rattle.hh_term.specs.MustCan.{go_on as go_on_code, is_end, answer_bag, gives as gives_all};
 ghost use Rattle.hh_term.specs.Selection.{Start, Resume};
 ghost use Rattle.hh_term.specs.Statement.{Emit as EmitStatement};
 ghost use Rattle.hh_term.specs.ProgramView.{kernel_of};
 ghost use Rattle.hh_term.specs.Views.{statement_of, selection_of};
 ghost use Rattle.status_table.specs.TableView.{cells_in};
-ghost use Rattle.status_table.specs.Walking.{Counted, Fits, Tallied, Visited, code_of, first_bag, first_code, index_of, tested};
+ghost use Rattle.status_table.specs.Walking.{Counted, Fits, Tallied, Visited, code_of, first_bag, first_code};
+ghost use Rattle.status_table.specs.Walking.{index_of, tested};
 
 use crate::declared::{kind_of, target_of};
 use crate::state::{Outer, Pass, Statuses, add_executed, add_possible};
@@ -45,7 +47,8 @@ pub struct Place {
 }
 
 fn holds(alloc: Global, condition: &Expr<u32>, cells: &Cells) -> Result<Verdict, NoMemory>
-    ensures { IfOk result (λ t. t ≡ tested (eval_of (expression_of condition.now) (environment_of cells.now) cells.now.args.items)) }
+    ensures { IfOk result (λ t. t ≡ tested
+        (eval_of (expression_of condition.now) (environment_of cells.now) cells.now.args.items)) }
 {
     Ok(match eval(alloc, condition, cells)? {
         Cell::Unknown => Verdict::Undecided,
@@ -119,7 +122,9 @@ fn emit(
     pass: &mut Pass,
 ) -> Result<(), NoMemory>
     requires { pass.old.cells.args.items ≡ [] }
-    ensures { OnOk result (Counted (table_of (kernel_of program.now)) (gives_all ((signal, emitted (optional_expression value.now) (env_of pass.old.cells.signals.items)) ∷ []) 0 (index_of sure)) pass.old pass.new) }
+    ensures { OnOk result (Counted (table_of (kernel_of program.now))
+        (gives_all ((signal, emitted (optional_expression value.now) (env_of pass.old.cells.signals.items)) ∷
+        []) 0 (index_of sure)) pass.old pass.new) }
 {
     if sure {
         let cell = emission(alloc, value, &pass.cells)?;
@@ -139,7 +144,9 @@ fn answer(
     sure: bool,
     pass: &mut Pass,
 ) -> Result<(), NoMemory>
-    ensures { OnOk result ((k : ℕ) → Counted (table_of (kernel_of program.now)) (gives_all (first_bag ((table_of (kernel_of program.now)).target site) queue.now) k (index_of sure)) pass.old pass.new) }
+    ensures { OnOk result ((k : ℕ) → Counted (table_of (kernel_of program.now))
+        (gives_all (first_bag ((table_of (kernel_of program.now)).target site) queue.now) k (index_of sure))
+        pass.old pass.new) }
 {
     match (queue.get(0), target_of(program, site)) {
         (Some(first), Some(signal)) => {
@@ -175,12 +182,14 @@ pub fn start(
     pass: &mut Pass,
     codes: &mut Flags,
 ) -> Result<Option<u16>, NoMemory>
-    requires fits { Fits (length pass.old.cells.signals.items) (length table.now.rows.items) at.depth (statement_of term.now) }
+    requires fits { Fits (length pass.old.cells.signals.items) (length table.now.rows.items) at.depth
+        (statement_of term.now) }
     requires tallies { length pass.old.tallies.items ≡ length pass.old.cells.signals.items }
     requires args { pass.old.cells.args.items ≡ [] }
     requires declared { length pass.old.cells.signals.items ≤ length (kernel_of program.now).signals }
     requires depth { at.depth < length table.now.rows.items }
-    ensures { IfOk result (λ c. Visited (table_of (kernel_of program.now)) (cells_in table.now) (statement_of term.now) at.depth at.level Start at.sure c codes.new pass.old pass.new) }
+    ensures { IfOk result (λ c. Visited (table_of (kernel_of program.now)) (cells_in table.now)
+        (statement_of term.now) at.depth at.level Start at.sure c codes.new pass.old pass.new) }
 {
     match &term.node {
         TermNode::Nothing => Ok(gives(0, at.sure, codes)),
@@ -263,12 +272,15 @@ pub fn resume(
     pass: &mut Pass,
     codes: &mut Flags,
 ) -> Result<Option<u16>, NoMemory>
-    requires fits { Fits (length pass.old.cells.signals.items) (length table.now.rows.items) at.depth (statement_of term.now) }
+    requires fits { Fits (length pass.old.cells.signals.items) (length table.now.rows.items) at.depth
+        (statement_of term.now) }
     requires tallies { length pass.old.tallies.items ≡ length pass.old.cells.signals.items }
     requires args { pass.old.cells.args.items ≡ [] }
     requires declared { length pass.old.cells.signals.items ≤ length (kernel_of program.now).signals }
     requires depth { at.depth < length table.now.rows.items }
-    ensures { IfOk result (λ c. Visited (table_of (kernel_of program.now)) (cells_in table.now) (statement_of term.now) at.depth at.level (Resume (selection_of mark.now)) at.sure c codes.new pass.old pass.new) }
+    ensures { IfOk result (λ c. Visited (table_of (kernel_of program.now)) (cells_in table.now)
+        (statement_of term.now) at.depth at.level (Resume (selection_of mark.now)) at.sure c codes.new
+        pass.old pass.new) }
 {
     match (&term.node, mark) {
         (TermNode::Emit(s, value), _) => {

@@ -10,9 +10,13 @@ returns-in_ok-tallies c =
     λ x.
     let T = table_of (kernel_of c.args._program.now) in
     let ts = c.args.tallies.now.items in
-    possible_tallied T c.args.signal x ts c.replace-tally.result c.in_ok-tallies.field-0 c.replace-tally.new.dest (omega (arith, c.if-at-len.true, c.len.ensures))
-    (read_here ts c.args.signal c.index_mut.result.now c.replace-tally.result (omega (arith, c.if-at-len.true, c.len.ensures)) c.index_mut.ensures.value c.replace-tally.ensures.value)
+    possible_tallied T c.args.signal x ts c.replace-tally.result c.in_ok-tallies.field-0
+    c.replace-tally.new.dest (omega (arith, c.if-at-len.true, c.len.ensures))
+    (read_here ts c.args.signal c.index_mut.result.now c.replace-tally.result
+    (omega (arith, c.if-at-len.true, c.len.ensures)) c.index_mut.ensures.value
+    c.replace-tally.ensures.value)
     (c.in_ok-tallies.ensures (T.kind c.args.signal) (T.word c.args.signal) x)
 
 pub returns-else-at-len : goal.returns-else-at-len
-returns-else-at-len c = λ x. possible_past (table_of (kernel_of c.args._program.now)) c.args.signal x c.args.tallies.now.items (omega (arith, c.if-at-len.false, c.len.ensures))
+returns-else-at-len c = λ x. possible_past (table_of (kernel_of c.args._program.now)) c.args.signal x
+    c.args.tallies.now.items (omega (arith, c.if-at-len.false, c.len.ensures))

@@ -12,6 +12,10 @@ returns-in_ok-add_possible-in-Some-Some c =
     record {
       signals = refl;
       args = refl;
-      tallies = possible_first (table_of (kernel_of c.args.program.now)) c.in-Some-Some.signal _ queue k c.args.sure c.args.pass.now.tallies.items c.add_possible.new.tallies.items c.if-sure.false (sym c.target_of.ensures ∙ c.in-Some-Some.is-1) (slice_get_within queue 0 c.in-Some-Some.first.now (sym c.in-Some-Some.ensures)) c.in_ok-add_possible-in-Some-Some.ensures;
+      tallies = possible_first (table_of (kernel_of c.args.program.now)) c.in-Some-Some.signal _ queue k
+          c.args.sure c.args.pass.now.tallies.items c.add_possible.new.tallies.items c.if-sure.false
+          (sym c.target_of.ensures ∙ c.in-Some-Some.is-1)
+          (slice_get_within queue 0 c.in-Some-Some.first.now (sym c.in-Some-Some.ensures))
+          c.in_ok-add_possible-in-Some-Some.ensures;
       raised = refl;
     }

@@ -12,6 +12,8 @@ returns c =
     record {
       signals = refl;
       args = refl;
-      tallies = subst (λ b. Tallied (table_of (kernel_of c.args.program.now)) (gives ((c.args.signal, x) ∷ []) 0 (index_of b)) c.args.pass.now.tallies.items c.add_possible.new.tallies.items) (sym c.if-sure.false) (c.in_ok-add_possible.ensures x);
+      tallies = subst (λ b. Tallied (table_of (kernel_of c.args.program.now))
+          (gives ((c.args.signal, x) ∷ []) 0 (index_of b)) c.args.pass.now.tallies.items
+          c.add_possible.new.tallies.items) (sym c.if-sure.false) (c.in_ok-add_possible.ensures x);
       raised = refl;
     }
