@@ -16,7 +16,7 @@ use Rattle.hh_term.proofs.WithinCan.{hide_within}
 use Rattle.hh_term.proofs.MustCanLaws.{must_can_lawful, grows}
 use Rattle.hh_term.proofs.Standstill.{two_rounds}
 
-given_up : (o : Outer) (a b : MustCan) → MustCanBelow a b → MustCanBelow (with_given o a) (with_given o b)
+pub given_up : (o : Outer) (a b : MustCan) → MustCanBelow a b → MustCanBelow (with_given o a) (with_given o b)
 given_up o a b h =
     record {
       must = sub_append (same_bag_up (given_bag o)) h.must;
@@ -25,10 +25,10 @@ given_up o a b h =
       codes = h.codes;
     }
 
-given_within : (o : Outer) (a : MustCan) → MustWithinCan a → MustWithinCan (with_given o a)
+pub given_within : (o : Outer) (a : MustCan) → MustWithinCan a → MustWithinCan (with_given o a)
 given_within o a h = record { must = sub_append (same_sub (given_bag o)) h.must; code = h.code }
 
-given_grows : (o : Outer) (p : Env → MustCan) → Grows p p
+pub given_grows : (o : Outer) (p : Env → MustCan) → Grows p p
     → Grows (λ E. with_given o (p E)) (λ E. with_given o (p E))
 given_grows o p h =
     record {
@@ -43,13 +43,13 @@ scoped_grows T s p c h = record {
   within = λ E. let F = put E s (solve T s p E c) in hide_within s (p F) (h.within F);
 }
 
-nest_grows : (T : Table) (os : List Outer) (p : Env → MustCan) → Grows p p → Grows (nest T os p) (nest T os p)
+pub nest_grows : (T : Table) (os : List Outer) (p : Env → MustCan) → Grows p p → Grows (nest T os p) (nest T os p)
 nest_grows T [] p h = h
 nest_grows T (o ∷ os) p h =
     scoped_grows T o.signal (λ F. with_given o (nest T os p F)) (unsolved o.last.status o.last.val)
     (given_grows o (nest T os p) (nest_grows T os p h))
 
-program_grows : (T : Table) (p : Statement) (c : Control)
+pub program_grows : (T : Table) (p : Statement) (c : Control)
     → Grows (program_must_can T p c) (program_must_can T p c)
 program_grows T p Fresh = grows (must_can T p Start) (must_can_lawful T p Start) Executed Executed refl
 program_grows T p (At m) =

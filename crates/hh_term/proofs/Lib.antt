@@ -16,3 +16,4 @@ pub mod ExamplePrograms
 pub mod Runs
 pub mod Rows
 pub mod AsyncRows
+pub mod OnlyCode

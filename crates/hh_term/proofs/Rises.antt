@@ -56,12 +56,12 @@ is_end_up None d h = tt
 is_end_up (Some zero) d h = ap is_end h
 is_end_up (Some (suc k)) d h = tt
 
-go_on_up : (c d m n : Option ℕ) → CodeBelow c d → CodeBelow m n → CodeBelow (go_on c m) (go_on d n)
+pub go_on_up : (c d m n : Option ℕ) → CodeBelow c d → CodeBelow m n → CodeBelow (go_on c m) (go_on d n)
 go_on_up None d m n h g = tt
 go_on_up (Some zero) d m n h g = subst (λ z. CodeBelow m (go_on z n)) (sym h) g
 go_on_up (Some (suc k)) d m n h g = ap (λ z. go_on z n) h
 
-cond_sub : {A : Type 0} {R : A → A → Type 0} (x y : Bool) (us vs : List A) → (x ≡ true → y ≡ true)
+pub cond_sub : {A : Type 0} {R : A → A → Type 0} (x y : Bool) (us vs : List A) → (x ≡ true → y ≡ true)
     → Embeds R us vs → Embeds R (cond x us []) (cond y vs [])
 cond_sub true true us vs h g = g
 cond_sub true false us vs h g = let e : false ≡ true = h refl in cc

@@ -4,6 +4,7 @@
 use Rattle.std.specs.Prelude.{◌≡◌, ℕ, true, Option, Some, None, List, [], ◌∷◌}
 use Rattle.host_expr.specs.declared.cell.Cell.{Cell}
 use Rattle.host_expr.specs.Knows.{CellBelow}
+use Rattle.hh_term.specs.Codes.{only}
 use Rattle.hh_term.specs.MustCan.{MustCan, Index, Executed, Possible}
 
 -- what is executed is known to be possible, not the other way round
@@ -49,3 +50,7 @@ pub record MustWithinCan (a : MustCan) : Type 0 where
 pub record NothingSure (a : MustCan) : Type 0 where
   pub must : a.must ≡ []
   pub code : a.code ≡ None
+
+-- where there is a code, it is the only one
+pub record IsOnlyCode (a : MustCan) : Type 0 where
+  pub is : (d : ℕ) → a.code ≡ Some d → (c : ℕ) → a.codes c ≡ only d c

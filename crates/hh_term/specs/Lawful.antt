@@ -13,7 +13,7 @@ use Rattle.hh_term.specs.Views.{statement_of}
 use Rattle.hh_term.specs.Placed.{unplaced, placed_term, unplaced_kernel}
 use Rattle.hh_term.specs.ProgramView.{kernel_of, placed_of}
 use Rattle.hh_term.specs.Selection.{Control, Task, Start}
-use Rattle.hh_term.specs.Codes.{static_codes}
+use Rattle.hh_term.specs.Codes.{only, static_codes}
 use Rattle.hh_term.specs.Scopes.{LoopsWait}
 use Rattle.hh_term.specs.MustCan.{Table, Index, Executed, Possible, must_can, round, solve}
 use Rattle.hh_term.specs.Step.{Stepped, step}
@@ -75,3 +75,9 @@ TermsAreUnplaced = (t : Term) → unplaced (placed_term t) ≡ statement_of t
 -- So is a program.
 abbrev pub ProgramsAreUnplaced : Type 0
 ProgramsAreUnplaced = (p : Program) → unplaced_kernel (placed_of p) ≡ kernel_of p
+
+-- Where a statement must complete with a code, it can complete with that code alone.
+abbrev pub MustCodeIsTheOnlyCode : Type 0
+MustCodeIsTheOnlyCode =
+    (T : Table) (p : Statement) (t : Task) (i : Index) (E : Env) (d : ℕ) → (must_can T p t i E).code ≡ Some d →
+    (c : ℕ) → (must_can T p t i E).codes c ≡ only d c

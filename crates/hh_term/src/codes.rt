@@ -8,7 +8,7 @@ ghost use Rattle.hh_term.specs.Flags.{Agrees, codes_in};
 use crate::term::{Term, TermNode};
 
 /// A flag for each code: an exit's number is a byte, so no code is greater than 257.
-type Flags = [bool; 258];
+pub type Flags = [bool; 258];
 
 /// Whether the statement may end in the reaction in which it starts, so that no loop may have it for its
 /// body.
@@ -61,7 +61,8 @@ fn codes_of(term: &Term, codes: &mut Flags)
     }
 }
 
-fn put_only(codes: &mut Flags, code: usize)
+/// The set of this code alone.
+pub fn put_only(codes: &mut Flags, code: usize)
     requires { code < 258 }
     ensures { Agrees codes.new (only code) }
 {
@@ -69,7 +70,8 @@ fn put_only(codes: &mut Flags, code: usize)
     codes[code] = true;
 }
 
-fn join(codes: &mut Flags, others: &Flags)
+/// The codes of both.
+pub fn join(codes: &mut Flags, others: &Flags)
     ensures { Agrees codes.new (either (codes_in codes.old) (codes_in others.now)) }
 {
     for c in 0..258 {
@@ -77,7 +79,8 @@ fn join(codes: &mut Flags, others: &Flags)
     }
 }
 
-fn follow(codes: &mut Flags, others: &Flags)
+/// The codes of two parts in turn, of which the first has those of `codes`.
+pub fn follow(codes: &mut Flags, others: &Flags)
     ensures { Agrees codes.new (in_turn (codes_in codes.old) (codes_in others.now)) }
 {
     if codes[0] {
@@ -86,7 +89,8 @@ fn follow(codes: &mut Flags, others: &Flags)
     }
 }
 
-fn take_greater(codes: &mut Flags, others: &Flags)
+/// The greater code of each pair.
+pub fn take_greater(codes: &mut Flags, others: &Flags)
     ensures { Agrees codes.new (greater_of (codes_in codes.old) (codes_in others.now)) }
 {
     let mut code_so_far = false;
@@ -98,7 +102,8 @@ fn take_greater(codes: &mut Flags, others: &Flags)
     }
 }
 
-fn lower(codes: &mut Flags)
+/// What a trap makes of the codes.
+pub fn lower(codes: &mut Flags)
     ensures { Agrees codes.new (lowered (codes_in codes.old)) }
 {
     for c in 0..258 {

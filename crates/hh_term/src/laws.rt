@@ -3,7 +3,7 @@
 ghost use Rattle.hh_term.specs.Lawful.{MustExtendsCanShrinks, MustIsWithinCan};
 ghost use Rattle.hh_term.specs.Lawful.{NothingIsSureWherePossible, TwoRoundsStandStill};
 ghost use Rattle.hh_term.specs.Lawful.{TermsAreUnplaced, ProgramsAreUnplaced, StepHasTheBagOfMust};
-ghost use Rattle.hh_term.specs.Lawful.{StepHasTheCodeOfMust, StartedCodesAreStatic, InterfaceStandsStill};
+ghost use Rattle.hh_term.specs.Lawful.{MustCodeIsTheOnlyCode, StepHasTheCodeOfMust, StartedCodesAreStatic, InterfaceStandsStill};
 
 /// Where the environment or the index knows more, Must extends and Can shrinks.
 pub fn knows_more()
@@ -41,4 +41,9 @@ pub fn started_codes()
 pub fn positions_aside()
     ensures terms { TermsAreUnplaced }
     ensures programs { ProgramsAreUnplaced }
+{}
+
+/// Where a statement must complete with a code, it can complete with that code alone.
+pub fn only_code()
+    ensures { MustCodeIsTheOnlyCode }
 {}

@@ -1,0 +1,14 @@
+pub mod Bounding
+pub mod FlatLaws
+pub mod Rounds
+pub mod FlatStepLaws
+pub mod Outers
+pub mod Combining
+pub mod Reading
+pub mod Adding
+pub mod Meeting
+pub mod Visiting
+pub mod Unmet
+pub mod Solved
+pub mod Raising
+pub mod Whole

@@ -1,0 +1,10 @@
+pub mod Flat
+pub mod FlatStep
+pub mod Standing
+pub mod Putting
+pub mod Tallies
+pub mod Walking
+pub mod TableView
+pub mod Moving
+pub mod TableLaws
+pub mod WholeProgram

@@ -1,0 +1,35 @@
+//! What a program says of its signals and sites.
+
+ghost use Rattle.std.specs.Prelude.{◌≡◌};
+ghost use Rattle.hh_term.specs.MustCan.{table_of};
+ghost use Rattle.hh_term.specs.ProgramView.{kernel_of};
+
+use hh_base::value::{CombineWord, Kind};
+use hh_term::program::Program;
+
+pub fn kind_of(program: &Program, signal: u32) -> Kind
+    ensures { result ≡ (table_of (kernel_of program.now)).kind signal }
+{
+    match program.signals().get(signal as usize) {
+        Some(declared) => declared.kind,
+        None => Kind::Pure,
+    }
+}
+
+pub fn word_of(program: &Program, signal: u32) -> Option<CombineWord>
+    ensures { result ≡ (table_of (kernel_of program.now)).word signal }
+{
+    match program.signals().get(signal as usize) {
+        Some(declared) => declared.combine,
+        None => None,
+    }
+}
+
+pub fn target_of(program: &Program, site: u32) -> Option<u32>
+    ensures { result ≡ (table_of (kernel_of program.now)).target site }
+{
+    match program.sites().get(site as usize) {
+        Some(declared) => declared.signal,
+        None => None,
+    }
+}
