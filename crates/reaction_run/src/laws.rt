@@ -1,0 +1,30 @@
+//! Laws of every run, for any step that a machine names. Each call does nothing; its contract is the law.
+
+ghost use Rattle.reaction_run.specs.Machine.{Machine};
+ghost use Rattle.reaction_run.specs.Laws.{GoneIsStale, GoneStaysGone, StartsCount, TriedOnce, RefusalKeeps, ResetStops};
+
+/// Each answer is tried by at most one accepted reaction.
+pub fn tried_once<Place>()
+    ensures { (M : Machine Place) → TriedOnce M }
+{}
+
+/// A refused reaction changes nothing but that what it took waits.
+pub fn refusal_keeps<Place>()
+    ensures { (M : Machine Place) → RefusalKeeps M }
+{}
+
+/// A reset leaves no instance running.
+pub fn reset_stops<Place>()
+    ensures { (M : Machine Place) → ResetStops M }
+{}
+
+/// The ids of started instances follow on the last id without a gap.
+pub fn starts_count<Place>()
+    ensures { (M : Machine Place) → StartsCount M }
+{}
+
+/// An instance that has stopped never runs again, and each answer to it is dropped as stale.
+pub fn gone_for_good<Place>()
+    ensures stays { (M : Machine Place) → GoneStaysGone M }
+    ensures stale { (M : Machine Place) → GoneIsStale M }
+{}

@@ -1,0 +1,7 @@
+//! Events of a machine, its replies, runs of events and logs, and the laws of every run.
+#![tactic(auto)]
+
+pub mod event;
+pub mod laws;
+pub mod log;
+pub mod reply;

@@ -1,0 +1,45 @@
+//! What happened to a machine, in order.
+
+use crate::event::Event;
+use crate::reply::Reply;
+use std::marker::Model;
+
+/// An event and the reply to it.
+#[derive(Drop)]
+pub struct Entry {
+    pub event: Event,
+    pub reply: Reply,
+}
+
+/// Entries in order. Contracts see the list.
+#[derive(Drop)]
+pub struct Log {
+    entries: Vec<Entry>,
+}
+
+impl Model for Log {
+    ghost use Rattle.std.specs.Prelude.{List};
+    ghost use Rattle.reaction_run.specs.declared.log.Entry.{Entry as AnEntry};
+
+    ghost Value = { List AnEntry };
+
+    ghost view = { λ l. l.entries.items };
+}
+
+impl Log {
+    ghost use Rattle.std.specs.Prelude.{◌≡◌, []};
+
+    pub fn new(alloc: std::alloc::Global) -> Log
+        ensures { result ≡ [] }
+    {
+        Log {
+            entries: Vec::new(alloc),
+        }
+    }
+
+    pub fn entries(&self) -> &[Entry]
+        ensures { result.now ≡ self.now }
+    {
+        self.entries.as_slice()
+    }
+}
