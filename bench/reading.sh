@@ -32,7 +32,7 @@ for crate in $(needs module_reader module_printer); do
     done
     grep -E "^$crate:" "$top/crates.txt" >>"$work/crates.txt"
 done
-echo 'reads: hh_base hh_term module_token module_reader module_printer' >>"$work/crates.txt"
+echo 'reads: hh_base module_tree module_token module_reader module_printer' >>"$work/crates.txt"
 cat >"$work/crates/reads/src/main.rt" <<'R'
 //! Reads a module text from standard input, as far as the first word says, and tells what was found.
 #![tactic(auto)]
@@ -57,7 +57,7 @@ fn main(rt: HostRuntime) -> io::Result<()> {
     }
     match read(rt.alloc(), text.as_str()) {
         Err(fault) => println!(rt; "{fault}")?,
-        Ok(modules) if words == 2 => println!(rt; "{} declarations", modules.tops().len())?,
+        Ok(modules) if words == 2 => println!(rt; "{} declarations", modules.parts().len())?,
         Ok(modules) => match print(rt.alloc(), &modules) {
             Ok(bytes) => println!(rt; "{} bytes printed", bytes.len())?,
             Err(fault) => println!(rt; "{fault}")?,
