@@ -279,6 +279,6 @@ sample_outermost room =
     sample_seq (l.outer (l.placed (g.expression (g.inside room))))
     (sample_outer (l.placed (g.expression (g.inside room))) first) (λ a. sample_pure (expr_at a))
 
-pub good_test : (n x : ℕ) → Out x n (p.test n) (g.test (deeper n x)) false (is_punct k.LeftParen) never
-unfolding p.test
+pub good_test : (n x : ℕ) → Out x n (p.bracketed_test n) (g.test (deeper n x)) false (is_punct k.LeftParen) never
+unfolding p.bracketed_test
 good_test n x = good_in_round n x sample_outermost (λ m. good_outermost m x) refl

@@ -275,8 +275,8 @@ outermost room = do
   found ← parser.outer (parser.placed (expression (inside room)))
   pure (expr_at found)
 
-unfoldable pub test : ℕ → Parser (ExprAt Name)
-test room = in_round outermost room
+unfoldable pub bracketed_test : ℕ → Parser (ExprAt Name)
+bracketed_test room = in_round outermost room
 
 abbrev pub arguments : ℕ → Parser (List (ExprAt Name))
 arguments left = listed_or_none (outermost left)

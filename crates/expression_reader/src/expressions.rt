@@ -350,9 +350,9 @@ impl<'a> Reader<'a> {
     }
 
     /// An outermost expression in round brackets.
-    #[tactic(auto, unfolding(crate::specs::Reference::test, crate::specs::Reference::in_round, grammar::specs::Parser::opened))]
+    #[tactic(auto, unfolding(crate::specs::Reference::bracketed_test, crate::specs::Reference::in_round, grammar::specs::Parser::opened))]
     pub fn test(&mut self, room: u8) -> Result<ExprAt<Name>, StepError>
-        ensures { Reads as_refusal (rule.test room self.old) result self.new }
+        ensures { Reads as_refusal (rule.bracketed_test room self.old) result self.new }
     {
         let (_, left) = self.open(Punct::LeftParen, room)?;
         let expr = self.outermost(left)?;

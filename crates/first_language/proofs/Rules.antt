@@ -57,9 +57,9 @@ good_emit : (signals : List Declaration) → Good (p.emit signals) (g.emitting s
 unfolding p.emit
 good_emit signals = good_then (good_take k.Emit) (λ t. good_then (good_signal signals true) (λ s. good_then (good_take k.Semicolon) (λ w. good_pure (kernel.emit t s.1) never) refl) refl) refl
 
-good_test : (signals : List Declaration) (room : ℕ) → Good (p.test signals room) (g.test signals room) false (is k.LeftParen) never
-unfolding p.test
-good_test signals zero = good_refuse (p.test signals zero) false (is k.LeftParen) never (λ i. refl)
+good_test : (signals : List Declaration) (room : ℕ) → Good (p.bracketed_test signals room) (g.test signals room) false (is k.LeftParen) never
+unfolding p.bracketed_test
+good_test signals zero = good_refuse (p.bracketed_test signals zero) false (is k.LeftParen) never (λ i. refl)
 good_test signals (suc room) =
     good_then (good_take k.LeftParen) (λ t. good_then (good_signal signals false) (λ s. good_then (good_take k.Dot) (λ d. good_then (good_take k.Now) (λ n. good_then (good_take k.RightParen) (λ w. good_pure s never) refl) refl) refl) refl) refl
 

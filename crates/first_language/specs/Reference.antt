@@ -56,9 +56,9 @@ emit signals = do
   take k.Semicolon
   pure (kernel.emit t s.1)
 
-unfoldable pub test : List Declaration → ℕ → Parser (ℕ × ℕ)
-test signals zero = refuse
-test signals (suc room) = do
+unfoldable pub bracketed_test : List Declaration → ℕ → Parser (ℕ × ℕ)
+bracketed_test signals zero = refuse
+bracketed_test signals (suc room) = do
   take k.LeftParen
   s ← signal signals false
   take k.Dot
@@ -100,12 +100,12 @@ unfoldable pub block : List Declaration → ℕ → Parser Statement
 block signals zero = refuse
 block signals (suc room) = do
   t ← take k.LeftBrace
-  xs ← many begins_statement (statement signals (test signals room) (block signals room))
+  xs ← many begins_statement (statement signals (bracketed_test signals room) (block signals room))
   take k.RightBrace
   pure (kernel.join t xs)
 
 abbrev pub statement_in : List Declaration → ℕ → Parser Statement
-statement_in signals room = statement signals (test signals room) (block signals room)
+statement_in signals room = statement signals (bracketed_test signals room) (block signals room)
 
 unfoldable pub body : List Declaration → Parser Statement
 body ds = do

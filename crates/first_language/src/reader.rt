@@ -193,9 +193,9 @@ impl<'a> Reader<'a> {
     }
 
     /// A test in round brackets, where so many brackets may still be opened.
-    #[tactic(auto, unfolding(crate::specs::Reference::test))]
+    #[tactic(auto, unfolding(crate::specs::Reference::bracketed_test))]
     fn test(&mut self, scope: &Scope, room: u8) -> Result<(u32, u32), ReadRefusal>
-        ensures { Reads (rule.test scope.now room self.old) result self.new }
+        ensures { Reads (rule.bracketed_test scope.now room self.old) result self.new }
     {
         if room == 0 {
             return Err(ReadRefusal::NotBuilt);
@@ -223,7 +223,7 @@ impl<'a> Reader<'a> {
     #[cycle(statement)]
     #[tactic(auto, unfolding(crate::specs::Reference::choice))]
     fn choice(&mut self, scope: &Scope, room: u8) -> Result<Statement, ReadRefusal>
-        ensures { Reads (rule.choice (rule.test scope.now room) (rule.block scope.now room) self.old) result self.new }
+        ensures { Reads (rule.choice (rule.bracketed_test scope.now room) (rule.block scope.now room) self.old) result self.new }
     {
         let pos = self.take(Kind::If)?;
         let (test, signal) = self.test(scope, room)?;

@@ -39,7 +39,7 @@ use Rattle.expression_reader.specs.Terminals.{symbols, is_keyword, is_punct, is_
 use Rattle.expression_reader.specs.Trees.{Name, pos_at}
 use Rattle.module_reader.specs.Trees.{statement_at, block_at, nested}
 use Rattle.expression_reader.specs.Rules.{is_quoted, is_number, largest}
-use Rattle.expression_reader.specs.Reference.{Parser, keyword, punct, name, named, quoted, number, how_often, optional, listed, listed_or_none, in_round, in_curly, outermost, test, arguments}
+use Rattle.expression_reader.specs.Reference.{Parser, keyword, punct, name, named, quoted, number, how_often, optional, listed, listed_or_none, in_round, in_curly, outermost, bracketed_test, arguments}
 
 -- ---- declarations
 
@@ -161,7 +161,7 @@ parameter = do
 
 unfoldable pub once : ℕ → Parser (Later Name)
 once room = do
-  test ← test room
+  test ← bracketed_test room
   pure (laters.Once test)
 
 unfoldable pub times : ℕ → Parser (ℕ × ExprAt Name)
@@ -188,7 +188,7 @@ later_delay room = do
 unfoldable pub immediate : ℕ → Parser (Delay Name)
 immediate room = do
   keyword word.Immediate
-  test ← test room
+  test ← bracketed_test room
   pure (delays.Immediate test)
 
 unfoldable pub delay : ℕ → Parser (Delay Name)
@@ -203,7 +203,7 @@ simple name what = do
   pure (statement_at place what)
 
 unfoldable pub emitted : ℕ → Parser (Option (ExprAt Name))
-emitted room = optional (is_punct mark.LeftParen) (test room)
+emitted room = optional (is_punct mark.LeftParen) (bracketed_test room)
 
 -- what is emitted
 unfoldable pub emission : ℕ → Parser (NameAt Name × Option (ExprAt Name))
@@ -236,7 +236,7 @@ otherwise block = optional (is_keyword word.Else) (behind_else block)
 unfoldable pub if_else : Parser (BlockNode Name) → ℕ → Parser (StatementNode Name)
 if_else block room = do
   place ← keyword word.If
-  test ← test room
+  test ← bracketed_test room
   first ← block
   second ← otherwise block
   pure (statement_at place (node.If test first second))
@@ -314,7 +314,7 @@ unfoldable pub suspend : Parser (BlockNode Name) → ℕ → Parser (StatementNo
 suspend block room = do
   place ← keyword word.Suspend
   at_once ← has_immediate
-  test ← test room
+  test ← bracketed_test room
   suspended ← block
   pure (statement_at place (node.Suspend at_once test suspended))
 
