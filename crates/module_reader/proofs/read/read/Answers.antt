@@ -9,32 +9,32 @@ use Rattle.module_reader.proofs.RealTokens.{same_tokens}
 use Rattle.module_reader.proofs.ReadTexts as reading
 use Rattle.module_reader.proofs.read.read.Goals as goal
 
-pub returns-in-Err-read_tokens-clause-only : goal.returns-in-Err-read_tokens-clause-only
-returns-in-Err-read_tokens-clause-only c = λ m h.
+pub returns-in-Err-clause-only : goal.returns-in-Err-clause-only
+returns-in-Err-clause-only c = λ m h.
     let text = c.args.text.now in
     let same = ap (map to_grammar) (sym (c.in-Ok.ensures.only h.tokens h.has_tokens))
     ∙ (same_tokens text c.in-Ok.tokens.items ∙ ap (cursor.toks text) (sym c.as_slice.ensures.value)) in
     subst (λ (f : ReadFault). f ≡ fault.NoMemory) (sym c.as_fault.ensures)
     (reading.only_memory text h.tokens h.has_tokens (cursor.toks text c.as_slice.result.now) same
-    c.in-Err-read_tokens.refused c.in-Err-read_tokens.ensures m h.spells)
+    c.in-Err.refused c.in-Err.ensures m h.spells)
 
-pub returns-in-Err-read_tokens-clause-fault : goal.returns-in-Err-read_tokens-clause-fault
-returns-in-Err-read_tokens-clause-fault c =
+pub returns-in-Err-clause-fault : goal.returns-in-Err-clause-fault
+returns-in-Err-clause-fault c =
     let text = c.args.text.now in
     let same = same_tokens text c.in-Ok.tokens.items ∙ ap (cursor.toks text) (sym c.as_slice.ensures.value) in
     subst (IsFirstFault text) (sym c.as_fault.ensures)
     (reading.of_grammar text (place.toks text c.in-Ok.tokens.items) c.in-Ok.ensures.found
-    (cursor.toks text c.as_slice.result.now) same c.in-Err-read_tokens.refused
-    c.in-Err-read_tokens.ensures)
+    (cursor.toks text c.as_slice.result.now) same c.in-Err.refused
+    c.in-Err.ensures)
 
-pub returns-in-Err-read_tokens-clause-by_rule : goal.returns-in-Err-read_tokens-clause-by_rule
-returns-in-Err-read_tokens-clause-by_rule c =
+pub returns-in-Err-clause-by_rule : goal.returns-in-Err-clause-by_rule
+returns-in-Err-clause-by_rule c =
     let text = c.args.text.now in
     let same = same_tokens text c.in-Ok.tokens.items ∙ ap (cursor.toks text) (sym c.as_slice.ensures.value) in
     subst (IsByRule text) (sym c.as_fault.ensures)
     (reading.by_rule text (cursor.toks text c.as_slice.result.now)
     (λ tokens has. ap (map to_grammar) (sym (c.in-Ok.ensures.only tokens has)) ∙ same)
-    c.in-Err-read_tokens.refused c.in-Err-read_tokens.ensures)
+    c.in-Err.refused c.in-Err.ensures)
 
 pub new-requires : goal.new-requires
 new-requires c =
