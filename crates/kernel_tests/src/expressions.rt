@@ -97,7 +97,7 @@ fn node(alloc: Global, step: Step, stack: &mut Vec<Expr<u32>>) -> Result<ExprNod
     }
 }
 
-fn build(alloc: Global, steps: &[Step]) -> Result<Boxed<Expr<u32>>, NoMemory> {
+fn build(alloc: Global, steps: &[Step; 4]) -> Result<Boxed<Expr<u32>>, NoMemory> {
     let mut stack = Vec::new(alloc);
     for (place, step) in steps.iter().enumerate() {
         let node = node(alloc, *step, &mut stack)?;
