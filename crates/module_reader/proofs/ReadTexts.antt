@@ -65,7 +65,7 @@ no_memory (r.ExprLarge n) h = absurd (let no : ⊥ = cc in no)
 no_memory (r.NumberLarge n) h = absurd (let no : ⊥ = cc in no)
 no_memory (r.BadCount n) h = absurd (let no : ⊥ = cc in no)
 
-fault_at : ℕ → GrammarFaultKind → GrammarFault
+abbrev fault_at : ℕ → GrammarFaultKind → GrammarFault
 fault_at n kind = record { pos = pos_at n; kind = kind }
 
 module _ (text : List ℕ) (tokens : List token.TextToken) (found : HasTokens text tokens)
@@ -153,7 +153,7 @@ module _ (text : List ℕ) (ts : List (Tok Terminal)) (same : (tokens : List tok
   by_refusal : (e : StepError) → Exact as_refusal (whole (p.parts 128) (start ts (length text))) (Err e)
       → (f : GrammarFault) → as_refusal e ≡ Some (refusal_of f) → IsByRule text (fault.Grammar f)
   by_refusal e x f h = λ tokens has. subst (λ zs. whole (p.parts 128) (start zs (length text))
-      ≡ Err (refusal_of f)) (sym (same tokens has)) (x.1 (refusal_of f) h)
+      ≡ Err (refusal_of f)) (sym (same tokens has)) (x.1 (refusal_of f) h).refused
 
   pub by_rule : (e : StepError) → Exact as_refusal (whole (p.parts 128) (start ts (length text))) (Err e)
       → IsByRule text (as_fault e)
