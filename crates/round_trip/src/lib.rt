@@ -29,7 +29,7 @@ pub fn read_back(alloc: Global, modules: &Modules) -> Result<Modules, ReadFault>
     ensures fault { IfErr result (λ e. e ≡ ReadFault.NoMemory) }
 {
     // What a source tree keeps is told by the call that shows it.
-    let _tops = modules.parts();
+    let _parts = modules.parts();
     let Ok(bytes) = print(alloc, modules) else {
         return Err(ReadFault::NoMemory);
     };
