@@ -184,7 +184,7 @@ fn is_one(alloc: Global, text: &str, what: TokenKind) -> Result<bool, Fail> {
     let found = read(alloc, text)?;
     let whole = Token {
         start: 0,
-        end: text.len() as u32,
+        end: u32::try_from(text.len()).unwrap_or(0),
         what,
     };
     Ok(found.as_slice() == [whole].as_slice())
@@ -252,21 +252,40 @@ fn repeated(
 }
 
 #[test]
-fn texts(rt: HostRuntime) -> Result<(), Fail> {
-    let alloc = rt.alloc();
+fn splits_texts(rt: HostRuntime) -> Result<(), Fail> {
     for (text, pieces) in SPLITS {
-        assert!(rt; is_split(alloc, text, pieces)?, "{text}");
+        assert!(rt; is_split(rt.alloc(), text, pieces)?, "{text}");
     }
+    Ok(())
+}
+
+#[test]
+fn reads_one_token(rt: HostRuntime) -> Result<(), Fail> {
     for (text, what) in ONES {
-        assert!(rt; is_one(alloc, text, what)?, "{text}");
+        assert!(rt; is_one(rt.alloc(), text, what)?, "{text}");
     }
+    Ok(())
+}
+
+#[test]
+fn refuses_texts(rt: HostRuntime) -> Result<(), Fail> {
     for (text, word, place) in FAULTS {
-        assert!(rt; refuses(alloc, text, word, place)?, "{text}");
+        assert!(rt; refuses(rt.alloc(), text, word, place)?, "{text}");
     }
+    Ok(())
+}
+
+#[test]
+fn refuses_long_texts(rt: HostRuntime) -> Result<(), Fail> {
     for (front, piece, count, back, word, place) in LONG {
-        let text = repeated(alloc, front, piece, count, back)?;
-        assert!(rt; refuses(alloc, text.as_str(), word, place)?, "{word}");
+        let text = repeated(rt.alloc(), front, piece, count, back)?;
+        assert!(rt; refuses(rt.alloc(), text.as_str(), word, place)?, "{word}");
     }
-    assert!(rt; has_value(alloc, "\"\\\"\\\\\\n\\t é/* '\"", "\"\\\n\t é/* '")?);
+    Ok(())
+}
+
+#[test]
+fn reads_escapes(rt: HostRuntime) -> Result<(), Fail> {
+    assert!(rt; has_value(rt.alloc(), "\"\\\"\\\\\\n\\t é/* '\"", "\"\\\n\t é/* '")?);
     Ok(())
 }
