@@ -7,5 +7,3 @@ pub mod effect;
 pub mod instance;
 pub mod instances;
 pub mod table;
-#[cfg(test)]
-mod tests;

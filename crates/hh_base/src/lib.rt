@@ -7,7 +7,5 @@ pub mod keyword;
 pub mod literal;
 pub mod memory;
 pub mod name;
-#[cfg(test)]
-mod tests;
 pub mod text;
 pub mod value;

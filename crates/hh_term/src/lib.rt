@@ -7,5 +7,3 @@ pub mod limits;
 pub mod mark;
 pub mod program;
 pub mod term;
-#[cfg(test)]
-mod tests;

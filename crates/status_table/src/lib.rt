@@ -5,6 +5,4 @@ mod declared;
 pub mod laws;
 pub mod state;
 pub mod tally;
-#[cfg(test)]
-mod tests;
 pub mod walk;

@@ -1,9 +1,9 @@
 //! Runs of reactions: what answers enter, and the effects that are told, in their order.
 
-use crate::answer::{Answer, Answers};
-use crate::change::Change;
-use crate::effect::{Effect, Reason};
-use crate::instances::Instances;
+use exec_instance::answer::{Answer, Answers};
+use exec_instance::change::Change;
+use exec_instance::effect::{Effect, Reason};
+use exec_instance::instances::Instances;
 use hh_base::value::{Kind, NoMemory, Value, Values};
 use std::alloc::Global;
 use std::test::Fail;

@@ -1,8 +1,8 @@
 //! Calls on their happy path, with answers worked out by hand.
 
-use crate::codes::may_end_now;
-use crate::term::{Term, TermNode};
 use hh_base::value::Pos;
+use hh_term::codes::may_end_now;
+use hh_term::term::{Term, TermNode};
 use std::alloc::{AllocError, Global};
 use std::test::Fail;
 

@@ -1,9 +1,9 @@
 //! What tallies give, by tables.
 
-use crate::laws::{program_is_solved, standing_is_solved, standing_steps};
-use crate::tally::Tally;
 use hh_base::value::{CombineWord, Kind, Tri, Value};
 use host_expr::cell::Cell;
+use status_table::laws::{program_is_solved, standing_is_solved, standing_steps};
+use status_table::tally::Tally;
 use std::alloc::Global;
 use std::test::Fail;
 

@@ -1,12 +1,12 @@
 //! Each call that takes memory, once on its happy path.
 
-use crate::command_line::CommandLine;
-use crate::item::{Item, Queue};
-use crate::keyword::{KEYWORDS, Keyword, keyword_of};
-use crate::literal::{LiteralFault, print_literal, read_literal};
-use crate::name::{NAME_LIMIT, Name, NameFault, same_name};
-use crate::text::{TEXT_LIMIT, Text, TextFault, same_text};
-use crate::value::{Kind, Value, copy_values, default_of, same_value};
+use hh_base::command_line::CommandLine;
+use hh_base::item::{Item, Queue};
+use hh_base::keyword::{KEYWORDS, Keyword, keyword_of};
+use hh_base::literal::{LiteralFault, print_literal, read_literal};
+use hh_base::name::{NAME_LIMIT, Name, NameFault, same_name};
+use hh_base::text::{TEXT_LIMIT, Text, TextFault, same_text};
+use hh_base::value::{Kind, Value, copy_values, default_of, same_value};
 use std::test::Fail;
 
 /// The keywords, as docs/LANGUAGE.md lists them.
