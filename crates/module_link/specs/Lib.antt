@@ -1,7 +1,1 @@
-pub mod Faults
-pub mod Named
-pub mod SourceKinds
-pub mod Rows
-pub mod FirstFault
 pub mod Resolved
-pub mod InnermostFirst

@@ -31,8 +31,8 @@ use Rattle.module_tree.specs.declared.source.Part.TheVariants as top
 use Rattle.module_tree.specs.Scopes.{Signal, TrapName, InScope, Declared, interface_signals, with_signals}
 use Rattle.module_tree.specs.Scopes.{with_trap}
 use Rattle.module_tree.specs.Callables.{Signature, signatures_of}
-use Rattle.module_link.specs.Named.{Name, signal_named, trap_named, module_named, place_of}
-use Rattle.module_link.specs.Rows.{Program, interface_of, module_place}
+use Rattle.link_faults.specs.Named.{Name, signal_named, trap_named, module_named, place_of}
+use Rattle.link_faults.specs.Rows.{Program, interface_of, module_place}
 
 abbrev pub or_first : Option ℕ → ℕ
 or_first None = 0

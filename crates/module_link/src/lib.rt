@@ -1,6 +1,2 @@
-//! The names of a module text: what each of them means, and the faults of a text in which one of them means
-//! nothing.
+//! A text without faults of names, kinds and runs, with each name replaced by the place of what it means.
 #![tactic(auto)]
-
-pub mod fault;
-pub mod scope;

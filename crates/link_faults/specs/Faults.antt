@@ -2,9 +2,9 @@
 -- listed. This project's own.
 use Rattle.std.specs.Prelude.{ℕ, ◌&&◌, ◌||◌, ◌==◌, nat_lt, Bool, Option, Some, None}
 use Rattle.std.specs.Prelude.{if◌then◌else◌}
-use Rattle.module_link.specs.declared.fault.LinkKind.{LinkKind}
-use Rattle.module_link.specs.declared.fault.LinkKind.TheVariants as fault
-use Rattle.module_link.specs.declared.fault.LinkFault.{LinkFault}
+use Rattle.link_faults.specs.declared.fault.LinkKind.{LinkKind}
+use Rattle.link_faults.specs.declared.fault.LinkKind.TheVariants as fault
+use Rattle.link_faults.specs.declared.fault.LinkFault.{LinkFault}
 
 abbrev pub rank_of : LinkKind → ℕ
 rank_of fault.TwiceDeclared = 0

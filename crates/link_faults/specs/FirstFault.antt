@@ -6,14 +6,14 @@ use Rattle.module_tree.specs.declared.source.NameAt.{NameAt}
 use Rattle.module_tree.specs.declared.source.ModuleNode.{ModuleNode}
 use Rattle.module_tree.specs.Callables.{modules_of}
 use Rattle.run_graph.specs.Reach.{Reaches}
-use Rattle.module_link.specs.declared.fault.LinkKind.{LinkKind}
-use Rattle.module_link.specs.declared.fault.LinkKind.TheVariants as fault
-use Rattle.module_link.specs.declared.fault.LinkFault.{LinkFault}
-use Rattle.module_link.specs.Faults.{is_before}
-use Rattle.module_link.specs.Named.{Name}
-use Rattle.module_link.specs.Rows.{Program, twice_declared, unknown_signal, unknown_module, unknown_trap}
-use Rattle.module_link.specs.Rows.{unknown_body, kind_wrong, emits_input, bad_binding, runs_in, module_place}
-use Rattle.module_link.specs.Rows.{source_runs}
+use Rattle.link_faults.specs.declared.fault.LinkKind.{LinkKind}
+use Rattle.link_faults.specs.declared.fault.LinkKind.TheVariants as fault
+use Rattle.link_faults.specs.declared.fault.LinkFault.{LinkFault}
+use Rattle.link_faults.specs.Faults.{is_before}
+use Rattle.link_faults.specs.Named.{Name}
+use Rattle.link_faults.specs.Rows.{Program, twice_declared, unknown_signal, unknown_module, unknown_trap}
+use Rattle.link_faults.specs.Rows.{unknown_body, kind_wrong, emits_input, bad_binding, runs_in, module_place}
+use Rattle.link_faults.specs.Rows.{source_runs}
 
 -- the module at place k has a run at this position whose module reaches it
 pub record RunsInCycle (parts : Program) (p : Pos) : Type 0 where

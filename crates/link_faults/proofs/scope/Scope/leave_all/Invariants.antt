@@ -1,6 +1,6 @@
 use Rattle.std.proofs.Common.{◌≡◌, drop}
-use Rattle.module_link.specs.InnermostFirst.{IsScope, in_scope}
-use Rattle.module_link.proofs.scope.Scope.leave_all.Given as goal
+use Rattle.link_faults.specs.InnermostFirst.{IsScope, in_scope}
+use Rattle.link_faults.proofs.scope.Scope.leave_all.Given as goal
 
 abbrev pub invariant-declared : goal.invariant-declared
 invariant-declared l = record {

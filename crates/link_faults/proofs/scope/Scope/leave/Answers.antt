@@ -4,8 +4,8 @@ use Rattle.std.specs.Str.{bytes_eq}
 use Rattle.std.proofs.lemmas.Slice.Eq.{bytes_eq-Decides}
 use Rattle.std.proofs.lemmas.Map.Text.{hash_map_updates_text}
 use Rattle.indexmap.specs.IndexMap.{get_by_text}
-use Rattle.module_link.proofs.ScopeLemmas.{scope_left}
-use Rattle.module_link.proofs.scope.Scope.leave.Goals as goal
+use Rattle.link_faults.proofs.ScopeLemmas.{scope_left}
+use Rattle.link_faults.proofs.scope.Scope.leave.Goals as goal
 
 pub returns-in_ok-insert-in-Some-hidden-clause-scope : goal.returns-in_ok-insert-in-Some-hidden-clause-scope
 returns-in_ok-insert-in-Some-hidden-clause-scope c =

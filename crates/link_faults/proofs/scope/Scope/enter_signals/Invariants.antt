@@ -1,7 +1,7 @@
 use Rattle.std.proofs.Common.{◌≡◌, ◌+◌, ◌-◌, ◌++◌, length, map, drop}
 use Rattle.module_tree.specs.Scopes.{local_signals}
-use Rattle.module_link.specs.InnermostFirst.{IsScope, in_scope, shown}
-use Rattle.module_link.proofs.scope.Scope.enter_signals.Given as goal
+use Rattle.link_faults.specs.InnermostFirst.{IsScope, in_scope, shown}
+use Rattle.link_faults.proofs.scope.Scope.enter_signals.Given as goal
 
 abbrev pub invariant-signals : goal.invariant-signals
 invariant-signals l = record {

@@ -5,9 +5,9 @@ use Rattle.std.specs.Str.{bytes_eq}
 use Rattle.std.specs.String.{string_bytes}
 use Rattle.indexmap.specs.IndexMap.{get_by_text}
 use Rattle.module_tree.specs.Scopes.{Signal}
-use Rattle.module_link.specs.declared.scope.Declaration.{Declaration}
-use Rattle.module_link.specs.declared.scope.Scope.{Scope}
-use Rattle.module_link.specs.Named.{Name}
+use Rattle.link_faults.specs.declared.scope.Declaration.{Declaration}
+use Rattle.link_faults.specs.declared.scope.Scope.{Scope}
+use Rattle.link_faults.specs.Named.{Name}
 
 -- a name, and the place of what it means
 pub record Named : Type 0 where

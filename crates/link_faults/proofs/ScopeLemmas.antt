@@ -7,11 +7,11 @@ use Rattle.std.specs.String.{string_bytes}
 use Rattle.std.proofs.lemmas.List.{reverse-append}
 use Rattle.indexmap.specs.IndexMap.{get_by_text}
 use Rattle.module_tree.specs.Scopes.{Signal}
-use Rattle.module_link.specs.declared.scope.Declaration.{Declaration}
-use Rattle.module_link.specs.declared.scope.Scope.{Scope}
-use Rattle.module_link.specs.Named.{Name}
-use Rattle.module_link.specs.InnermostFirst.{place_in, named, in_scope, KeepHidden, IsScope, declares}
-use Rattle.module_link.specs.InnermostFirst.{shown}
+use Rattle.link_faults.specs.declared.scope.Declaration.{Declaration}
+use Rattle.link_faults.specs.declared.scope.Scope.{Scope}
+use Rattle.link_faults.specs.Named.{Name}
+use Rattle.link_faults.specs.InnermostFirst.{place_in, named, in_scope, KeepHidden, IsScope, declares}
+use Rattle.link_faults.specs.InnermostFirst.{shown}
 
 reverse_push : {A : Type 0} (xs : List A) (x : A) (ys : List A) → ys ≡ xs ++ x ∷ []
     → reverse ys ≡ x ∷ reverse xs

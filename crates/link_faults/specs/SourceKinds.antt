@@ -12,7 +12,7 @@ use Rattle.host_expr.specs.Kinds.{one_valued, compare_kind, choose_kind}
 use Rattle.host_expr.specs.Misfit.{Judged, judged}
 use Rattle.module_tree.specs.declared.source.ExprAt.{ExprAt}
 use Rattle.module_tree.specs.LinkedFacts.{is_kind}
-use Rattle.module_link.specs.Named.{Name}
+use Rattle.link_faults.specs.Named.{Name}
 
 -- the kind of what a name means, if it means something
 abbrev pub Kinds : Type 0

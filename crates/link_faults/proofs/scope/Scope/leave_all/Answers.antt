@@ -1,7 +1,7 @@
 use Rattle.std.proofs.Common.{drop, ◌∙◌, ap}
 use Rattle.std.proofs.lemmas.List.{drop-drop}
-use Rattle.module_link.specs.InnermostFirst.{in_scope, Named}
-use Rattle.module_link.proofs.scope.Scope.leave_all.Goals as goal
+use Rattle.link_faults.specs.InnermostFirst.{in_scope, Named}
+use Rattle.link_faults.proofs.scope.Scope.leave_all.Goals as goal
 
 pub declared-preserved : goal.declared-preserved
 declared-preserved c = record {

@@ -3,8 +3,8 @@ use Rattle.std.specs.Prelude.{string_bytes}
 use Rattle.std.specs.Str.{bytes_eq}
 use Rattle.std.proofs.lemmas.Map.Text.{hash_map_updates_text}
 use Rattle.indexmap.specs.IndexMap.{get_by_text}
-use Rattle.module_link.proofs.ScopeLemmas.{scope_entered}
-use Rattle.module_link.proofs.scope.Scope.enter.Goals as goal
+use Rattle.link_faults.proofs.ScopeLemmas.{scope_entered}
+use Rattle.link_faults.proofs.scope.Scope.enter.Goals as goal
 
 pub returns-clause-scope : goal.returns-clause-scope
 returns-clause-scope c =

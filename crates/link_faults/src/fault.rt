@@ -1,7 +1,7 @@
 //! The faults of names, kinds and runs.
 
 ghost use Rattle.std.specs.Prelude.{◌≡◌, ◌↔◌, IsTrue};
-ghost use Rattle.module_link.specs.Faults.{rank_of, earlier, is_before};
+ghost use Rattle.link_faults.specs.Faults.{rank_of, earlier, is_before};
 
 use hh_base::value::Pos;
 use thiserror::Error;

@@ -23,7 +23,7 @@ pub struct Scope {
 
 impl Scope {
     ghost use Rattle.std.specs.Prelude.{◌≡◌, ◌+◌, ◌≤◌, ◌^◌, [], ◌∷◌, ◌++◌, length, map, drop, OnOk};
-    ghost use Rattle.module_link.specs.InnermostFirst.{IsScope, in_scope, place_in, declares, shown};
+    ghost use Rattle.link_faults.specs.InnermostFirst.{IsScope, in_scope, place_in, declares, shown};
     ghost use Rattle.module_tree.specs.Scopes.{local_signals};
 
     /// With no name in it.

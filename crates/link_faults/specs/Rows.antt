@@ -21,9 +21,9 @@ use Rattle.module_tree.specs.Parts.{StatementPart, Test, Emission, Locals, Exit,
 use Rattle.module_tree.specs.Parts.{parts_of, signals_read, parameters_read, signals_named, parameters_named}
 use Rattle.module_tree.specs.Callables.{Signature, modules_of, signatures_of}
 use Rattle.module_tree.specs.LinkedFacts.{is_kind, sig_fits, is_input}
-use Rattle.module_link.specs.Named.{Name, signal_named, trap_named, module_named, signature_named}
-use Rattle.module_link.specs.Named.{parameter_named, interface_named, place_of, is_named, first_ones}
-use Rattle.module_link.specs.SourceKinds.{Kinds, misfits_in, wrong_for, wrong_value}
+use Rattle.link_faults.specs.Named.{Name, signal_named, trap_named, module_named, signature_named}
+use Rattle.link_faults.specs.Named.{parameter_named, interface_named, place_of, is_named, first_ones}
+use Rattle.link_faults.specs.SourceKinds.{Kinds, misfits_in, wrong_for, wrong_value}
 
 abbrev pub Program : Type 0
 Program = List (Part Name)

@@ -1,0 +1,6 @@
+pub mod Faults
+pub mod Named
+pub mod SourceKinds
+pub mod Rows
+pub mod FirstFault
+pub mod InnermostFirst

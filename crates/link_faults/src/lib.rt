@@ -1,0 +1,6 @@
+//! The names of a module text: what each of them means, and the faults of a text in which one of them means
+//! nothing.
+#![tactic(auto)]
+
+pub mod fault;
+pub mod scope;
