@@ -1,5 +1,5 @@
 -- Which fault of a text is the first. This project's own.
-use Rattle.std.specs.Prelude.{◌≡◌, ℕ, false, Some, slice_get}
+use Rattle.std.specs.Prelude.{◌≡◌, ℕ, false, Some, None, Option, slice_get}
 use Rattle.std.specs.List.{Contains}
 use Rattle.hh_base.specs.declared.value.Pos.{Pos}
 use Rattle.module_tree.specs.declared.source.NameAt.{NameAt}
@@ -43,3 +43,12 @@ HasFault parts fault.RunCycle p = RunsInCycle parts p
 pub record IsFirstFault (parts : Program) (f : LinkFault) : Type 0 where
   pub found : HasFault parts f.kind f.pos
   pub first : (g : LinkFault) → HasFault parts g.kind g.pos → is_before g f ≡ false
+
+-- the text has no fault
+abbrev pub IsFaultless : Program → Type 0
+IsFaultless parts = (kind : LinkKind) (p : Pos) → HasFault parts kind p → ⊥
+
+-- the first fault of a text, or none where it has none
+abbrev pub IsVerdict : Program → Option LinkFault → Type 0
+IsVerdict parts None = IsFaultless parts
+IsVerdict parts (Some f) = IsFirstFault parts f
