@@ -1,10 +1,17 @@
 -- What a program keeps gives what rounds over it need: each local is declared once, and the table has a place
 -- for it at each level.
-use Rattle.std.proofs.Common.{◌≡◌, refl, sym, subst, ℕ, zero, suc, ◌+◌, ◌<◌, ◌≤◌, max, List, [], ◌∷◌, ◌++◌}
+use Rattle.std.proofs.Common.{◌≡◌, refl, sym, subst, ℕ, zero, suc, ◌+◌, ◌<◌, ◌≤◌, List, [], ◌∷◌, ◌++◌}
 use Rattle.std.proofs.Common.{◌⊎◌, inl, inr, ⊎_elim, arith}
+use Rattle.std.proofs.Common.{◌-◌, length}
 use Rattle.std.specs.List.{range_with_len}
-use Rattle.hh_term.specs.Statement.{Statement, Nothing, Pause, Emit, If, Suspend, Seq, Par, Loop, Trap, Exit}
-use Rattle.hh_term.specs.Statement.{Local, Async}
+use Rattle.std.proofs.Math.Logic.{∥∥₁_elim}
+use Rattle.std.proofs.Math.Bridge.{le_prop}
+use Rattle.std.proofs.Math.Nat.{ℕ_set}
+use mathlib.Core.List.{is_set}
+use Rattle.hh_term.specs.IsProgram.{IsProgram}
+use Rattle.hh_term.specs.Kernel.{Kernel}
+use Rattle.hh_term.specs.Statement.{Statement, If, Suspend, Seq, Par, Loop, Trap}
+use Rattle.hh_term.specs.Statement.{Local}
 use Rattle.hh_term.specs.Scopes.{locals_of}
 use Rattle.hh_term.specs.Sizes.{height_of}
 use Rattle.status_table.specs.Moving.{Has, Apart, Unique}
@@ -129,3 +136,31 @@ pub fits_program : (p : Statement) (a n S N : ℕ) → locals_of p ≡ range_wit
 fits_program p a n S N e le lt = fits_table S N 0 p
     (λ s h. let m = (in_range s a n (subst (Member s) e (has_member p s h))).1 in omega (arith, m, le))
     (omega (arith, lt))
+
+-- ---- what the rules of a program give
+
+order_prop : (xs ys : List ℕ) → IsProp (xs ≡ ys)
+order_prop xs ys = is_set ℕ_set xs ys
+
+rules_order : (K : Kernel) → ∥ IsProgram K ∥₁ → locals_of K.statement ≡ range_with_len K.interface
+    (length K.signals - K.interface)
+rules_order K rules = ∥∥₁_elim rules
+    (order_prop (locals_of K.statement) (range_with_len K.interface (length K.signals - K.interface)))
+    (λ r. r.locals_in_order)
+
+pub rules_declared : (K : Kernel) → ∥ IsProgram K ∥₁ → K.interface ≤ length K.signals
+rules_declared K rules = ∥∥₁_elim rules le_prop (λ r. r.interface_declared)
+
+pub rules_height : (K : Kernel) → ∥ IsProgram K ∥₁ → height_of K.statement ≤ 1024
+rules_height K rules = ∥∥₁_elim rules le_prop (λ r. r.within_limits.height)
+
+pub rules_unique : (K : Kernel) → ∥ IsProgram K ∥₁ → Unique K.statement
+rules_unique K rules = unique_program K.statement K.interface (length K.signals - K.interface)
+    (rules_order K rules)
+
+pub rules_fit : (K : Kernel) → ∥ IsProgram K ∥₁ → Fits (length K.signals) (loops_round K.statement + 1) 0
+    K.statement
+rules_fit K rules =
+    let d = rules_declared K rules in
+    fits_program K.statement K.interface (length K.signals - K.interface) (length K.signals)
+    (loops_round K.statement + 1) (rules_order K rules) (omega (arith, d)) (omega arith)

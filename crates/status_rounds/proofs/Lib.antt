@@ -3,3 +3,10 @@ mod Places
 mod Unknowns
 mod Interface
 mod Sound
+mod Beginning
+mod Concluding
+mod Giving
+mod Taking
+mod Seeing
+mod Going
+mod Settling

@@ -1,5 +1,5 @@
 -- What a round puts, it puts at a place of the table.
-use Rattle.std.proofs.Common.{◌≡◌, sym, subst, ℕ, suc, ◌<◌, false, [], inl, inr, ⊎_elim}
+use Rattle.std.proofs.Common.{sym, subst, ℕ, suc, ◌<◌, false, [], inl, inr, ⊎_elim}
 use Rattle.hh_base.specs.declared.value.Tri.{Tri}
 use Rattle.host_expr.specs.declared.cell.Cell.{Cell}
 use Rattle.host_expr.specs.Environment.{Env, put}

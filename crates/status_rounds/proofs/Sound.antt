@@ -4,7 +4,7 @@ use Rattle.std.proofs.Common.{◌⊎◌, inl, inr, ⊎_elim, eqb-true, eq-eqb, a
 use Rattle.hh_base.specs.declared.value.Tri.{Tri}
 use Rattle.host_expr.specs.declared.cell.Cell.{Cell}
 use Rattle.host_expr.specs.declared.cell.SigCell.{SigCell}
-use Rattle.host_expr.specs.Environment.{Env, blank, put, unsolved}
+use Rattle.host_expr.specs.Environment.{Env, unsolved}
 use Rattle.host_expr.specs.Knows.{EnvBelow, SignalBelow, TriBelow, CellBelow}
 use Rattle.host_expr.proofs.Information.{signal_refl, tri_refl, cell_refl}
 use Rattle.hh_term.specs.Statement.{Statement}
@@ -15,8 +15,8 @@ use Rattle.hh_term.specs.Reaction.{Outer, with_given}
 use Rattle.hh_term.proofs.Rounds.{raised_up}
 use Rattle.hh_term.proofs.Interface.{given_up, given_within}
 use Rattle.status_table.specs.Flat.{Cells}
-use Rattle.status_table.specs.Putting.{Puts}
-use Rattle.status_table.specs.Moving.{Has, Unique, LevelOk, nothing_known}
+use Rattle.status_rounds.specs.Rounds.{ProgramPuts}
+use Rattle.status_table.specs.Moving.{Unique, nothing_known}
 use Rattle.status_table.specs.WholeProgram.{Contains, scopes, NotIn, Different, MovesAll, opened, program_flat}
 use Rattle.status_table.specs.WholeProgram.{ProgramMoves, Reaches, begins, goes_on}
 use Rattle.status_table.proofs.FlatLaws.{flat_fair}
@@ -26,11 +26,6 @@ use Rattle.status_table.proofs.Raising.{signal_trans}
 use Rattle.status_rounds.proofs.Interface.{swapped}
 use Rattle.hh_base.specs.declared.value.Tri.TheVariants.{Unknown}
 use Rattle.host_expr.specs.declared.cell.Cell.TheVariants as cell
-
-abbrev pub ProgramPuts : Table → Cells → Statement → Control → Env → ℕ → ℕ → Tri × Cell → Type 0
-ProgramPuts T τ p Fresh E s n v = Puts T τ p 0 0 Start Executed E s n v
-ProgramPuts T τ p (At m) E s n v = Puts T τ p 0 0 (Resume m) Executed E s n v
-ProgramPuts T τ p Ended E s n v = ⊥
 
 abbrev ProgramRising : Table → Cells → Statement → Control → Env → Type 0
 ProgramRising T τ p Fresh E = Rising T τ p 0 0 Start Executed E

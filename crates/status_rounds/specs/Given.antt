@@ -1,10 +1,9 @@
 -- The given inputs of a reaction as first emissions. (This project's own.)
-use Rattle.std.specs.Prelude.{◌≢◌, ℕ, Option, List, ◌++◌, map}
+use Rattle.std.specs.Prelude.{◌≢◌, ℕ, List, ◌++◌, map}
 use Rattle.hh_base.specs.declared.value.Value.{Value}
 use Rattle.host_expr.specs.declared.cell.Cell.TheVariants as cell
 use Rattle.hh_term.specs.MustCan.{MustCan, Bag}
 use Rattle.hh_term.specs.Pairs.{EachPair}
-use Rattle.hh_term.specs.Reaction.{Last}
 
 -- one emission for each input
 abbrev pub given_all : List (ℕ × Value) → Bag

@@ -2,4 +2,6 @@
 //! gives its step.
 #![tactic(auto)]
 
+mod opening;
+mod round;
 pub mod settle;
