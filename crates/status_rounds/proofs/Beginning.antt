@@ -1,5 +1,6 @@
 -- What stands before the first round: nothing is known.
-use Rattle.std.proofs.Common.{◌≡◌, refl, sym, ap, subst, ◌∙◌, ℕ, zero, suc, ◌+◌, ◌-◌, false, List, [], ◌∷◌, ◌++◌}
+use Rattle.std.proofs.Common.{◌≡◌, refl, sym, ap, subst, ◌∙◌, ℕ, zero, suc, ◌+◌, ◌-◌, false, List, [], ◌∷◌}
+use Rattle.std.proofs.Common.{◌++◌}
 use Rattle.std.proofs.Common.{Some, ⊎_elim, length, map, slice_get, get_or, replicate, arith, length-append}
 use Rattle.std.proofs.lemmas.List.{map-append, get_or-append_right}
 use Rattle.std.proofs.Math.ListN.{get_or-append}
@@ -61,7 +62,8 @@ one_blank cells = fun_ext (λ s. at_signal s)
         (get_or_past cells s (unsolved false value.Unit) le))
         (cases_lt s (length cells))
       where
-        alone : (i : ℕ) → get_or (unsolved false value.Unit ∷ []) i (unsolved false value.Unit) ≡ unsolved false
+        alone : (i : ℕ) → get_or (unsolved false value.Unit ∷ []) i (unsolved false value.Unit) ≡ unsolved
+            false
             value.Unit
         alone zero = refl
         alone (suc i) = refl
@@ -73,7 +75,8 @@ blank_row zero s = refl
 blank_row (suc n) zero = refl
 blank_row (suc n) (suc s) = blank_row n s
 
-pub blank_rows : (N S n s : ℕ) → in_row (slice_get (replicate N (replicate S nothing)) n) s ≡ (Unknown, cell.Unknown)
+pub blank_rows : (N S n s : ℕ) → in_row (slice_get (replicate N (replicate S nothing)) n) s ≡
+    (Unknown, cell.Unknown)
 blank_rows zero S n s = refl
 blank_rows (suc N) S zero s = blank_row S s
 blank_rows (suc N) S (suc n) s = blank_rows N S n s
@@ -82,7 +85,9 @@ pub map-replicate : {A B : Type 0} (f : A → B) (n : ℕ) (x : A) → map f (re
 map-replicate f zero x = refl
 map-replicate f (suc n) x = ap (λ l. f x ∷ l) (map-replicate f n x)
 
-pub one_row : {A B : Type 0} (f : A → B) (xs : List A) (x : A) (n : ℕ) (b : B) → map f xs ≡ replicate n b → f x ≡
+pub one_row : {A B : Type 0} (f : A → B) (xs : List A) (x : A) (n : ℕ) (b : B) → map f xs ≡ replicate n b → f
+    x ≡
     b → map f (xs ++ x ∷ []) ≡ replicate (n + 1) b
-one_row f xs x n b e g = map-append f xs (x ∷ []) ∙ ap (λ l. l ++ f x ∷ []) e ∙ ap (λ y. replicate n b ++ y ∷ [])
+one_row f xs x n b e g = map-append f xs (x ∷ []) ∙ ap (λ l. l ++ f x ∷ []) e ∙ ap (λ y. replicate n b ++ y ∷
+    [])
     g ∙ replicate_more n b

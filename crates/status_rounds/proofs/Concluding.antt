@@ -37,8 +37,10 @@ cells_of_pass b = b.cells.signals.items
 
 -- the flag that stays, or that rises where the cell changed
 pub one_conclusion : (T : Table) (n : ℕ) (changed now after : Bool) (b0 b1 b2 : Pass) → n < length
-    b0.cells.signals.items → n < length b0.tallies.items → Conclusions T n changed b0 b1 → Concluded T n now b1 b2
-    → ((now ≡ true) × (after ≡ true)) ⊎ ((now ≡ false) × (after ≡ changed)) → Conclusions T (n + 1) after b0 b2
+    b0.cells.signals.items → n < length b0.tallies.items → Conclusions T n changed b0 b1 → Concluded T n now
+    b1 b2
+    → ((now ≡ true) × (after ≡ true)) ⊎ ((now ≡ false) × (after ≡ changed)) → Conclusions T (n + 1) after b0
+    b2
 one_conclusion T n changed now after b0 b1 b2 lc lt h g flag = record {
   args = g.args ∙ h.args;
   raised = g.raised ∙ h.raised;
@@ -118,11 +120,16 @@ some_tally t u e = cc
 abbrev pub cell_of : Tri → Cell → SigCell → SigCell
 cell_of st va c = record { status = st; value = va; pre = c.pre; preval = c.preval }
 
-pub known_cell : (c : SigCell) (k : Known) (v : Cell) → v ≡ c.value → k ≡ record { status = c.status; value = v } →
+pub known_cell : (c : SigCell) (k : Known) (v : Cell) → v ≡ c.value → k ≡ record {
+  status = c.status;
+  value =
+      v;
+} →
     cell_of k.status k.value c ≡ c
 known_cell c k v e f = ap (λ z. cell_of z.status z.value c) f ∙ ap (λ z. cell_of c.status z c) e
 
-pub cell_known : (c : SigCell) (k : Known) (v : Cell) → v ≡ c.value → cell_of k.status k.value c ≡ c → k ≡ record
+pub cell_known : (c : SigCell) (k : Known) (v : Cell) → v ≡ c.value → cell_of k.status k.value c ≡ c → k ≡
+    record
     { status = c.status; value = v }
 cell_known c k v e f =
     ap (λ z. let r : Known = record { status = z.status; value = z.value } in r) f ∙ ap
@@ -136,7 +143,8 @@ pub solved_cell : (T : Table) (s : ℕ) (c was : SigCell) (known : Known) (m d :
 solved_cell T s c was known m d k before e f g h i q =
     let r = q ∙ ap (λ z. tally_of z (T.word s) m d) (sym f) in
     ap (λ z. cell_of z known.value was) (h r) ∙ ap (λ z. cell_of (status_by m d) z was)
-    (i r ∙ ap (λ z. value_by z (T.word s) before m d) f ∙ ap (λ z. value_by (T.kind s) (T.word s) z m d) g) ∙ ap
+    (i r ∙ ap (λ z. value_by z (T.word s) before m d) f ∙ ap (λ z. value_by (T.kind s) (T.word s) z m d) g) ∙
+    ap
     (λ z. solved_by T s z m d) (sym e)
 
 -- the flag after one more signal

@@ -103,15 +103,25 @@ unique_locals _ h = tt
 record Below (S : ℕ) (p : Statement) : Type 0 where
   pub at : (s : ℕ) → Has p s → s < S
 
-pub fits_table : (S N d : ℕ) (p : Statement) → ((s : ℕ) → Has p s → s < S) → d + loops_round p < N → Fits S N d
+pub fits_table : (S N d : ℕ) (p : Statement) → ((s : ℕ) → Has p s → s < S) → d + loops_round p < N → Fits S N
+    d
     p
-fits_table S N d (If e p q) h le =
-    (fits_table S N d p (λ s a. h s (inl a)) (omega arith), fits_table S N d q (λ s a. h s (inr a)) (omega arith))
+fits_table S N d (If e p q) h le = (
+  fits_table S N d p (λ s a. h s (inl a)) (omega arith),
+  fits_table S N d q (λ s a. h s (inr a))
+      (omega arith),
+)
 fits_table S N d (Suspend e p) h le = fits_table S N d p h le
-fits_table S N d (Seq p q) h le =
-    (fits_table S N d p (λ s a. h s (inl a)) (omega arith), fits_table S N d q (λ s a. h s (inr a)) (omega arith))
-fits_table S N d (Par p q) h le =
-    (fits_table S N d p (λ s a. h s (inl a)) (omega arith), fits_table S N d q (λ s a. h s (inr a)) (omega arith))
+fits_table S N d (Seq p q) h le = (
+  fits_table S N d p (λ s a. h s (inl a)) (omega arith),
+  fits_table S N d q (λ s a. h s (inr a))
+      (omega arith),
+)
+fits_table S N d (Par p q) h le = (
+  fits_table S N d p (λ s a. h s (inl a)) (omega arith),
+  fits_table S N d q (λ s a. h s (inr a))
+      (omega arith),
+)
 fits_table S N d (Loop p) h le = (omega arith, fits_table S N (suc d) p h (omega arith))
 fits_table S N d (Trap p) h le = fits_table S N d p h le
 fits_table S N d (Local u p) h le = (h u (inl refl), fits_table S N d p (λ s a. h s (inr a)) le)
@@ -131,7 +141,8 @@ loops_height _ = omega arith
 pub unique_program : (p : Statement) (a n : ℕ) → locals_of p ≡ range_with_len a n → Unique p
 unique_program p a n e = unique_locals p (subst Distinct (sym e) (range_distinct a n))
 
-pub fits_program : (p : Statement) (a n S N : ℕ) → locals_of p ≡ range_with_len a n → a + n ≤ S → loops_round p
+pub fits_program : (p : Statement) (a n S N : ℕ) → locals_of p ≡ range_with_len a n → a + n ≤ S → loops_round
+    p
     < N → Fits S N 0 p
 fits_program p a n S N e le lt = fits_table S N 0 p
     (λ s h. let m = (in_range s a n (subst (Member s) e (has_member p s h))).1 in omega (arith, m, le))

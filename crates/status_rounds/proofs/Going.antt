@@ -64,12 +64,14 @@ or_either true b e = inl refl
 or_either false b e = inr e
 
 -- whether there are raises
-pub raises_none : (rs : List Raise) (n : ℕ) (r : Bool) → length rs ≡ n → r ≡ (n == 0) → not r ≡ false → rs ≡ []
+pub raises_none : (rs : List Raise) (n : ℕ) (r : Bool) → length rs ≡ n → r ≡ (n == 0) → not r ≡ false → rs ≡
+    []
 raises_none [] n r e f g = refl
 raises_none (x ∷ rs) n true e f g = let z : n ≡ 0 = eqb-true n 0 (sym f) in absurd (omega (arith, e, z))
 raises_none (x ∷ rs) n false e f g = cc
 
-pub raises_some : (rs : List Raise) (n : ℕ) (r : Bool) → length rs ≡ n → r ≡ (n == 0) → not r ≡ true → rs ≡ [] → ⊥
+pub raises_some : (rs : List Raise) (n : ℕ) (r : Bool) → length rs ≡ n → r ≡ (n == 0) → not r ≡ true → rs ≡ []
+    → ⊥
 raises_some rs n true e f g h = cc
 raises_some rs n false e f g h =
     let z : n ≡ 0 = sym e ∙ ap length h in
@@ -96,113 +98,123 @@ module _ (K : Kernel) (c : Control) (is : List (ℕ × Value)) (t : Statuses) (b
     (rules : ∥ IsProgram K ∥₁) (ready : Ready K t b0) (same : b1.cells.signals.items ≡ b0.cells.signals.items)
     (bare : b1.raised.items ≡ b0.raised.items)
     (given : Tallied (table_of K) (gives (given_all is) 0 Executed) b0.tallies.items b1.tallies.items)
-    (seen : Seen (table_of K) (cells_in t) K.statement c b1 b2) (kept : b3.raised.items ≡ b2.raised.items) where
-  abbrev E : Env
-  E = env_of b0.cells.signals.items
+    (seen : Seen (table_of K) (cells_in t) K.statement c b1 b2) (kept : b3.raised.items ≡ b2.raised.items)
+  where
+    abbrev E : Env
+    E = env_of b0.cells.signals.items
 
-  env_is : env_of b1.cells.signals.items ≡ E
-  env_is = ap env_of same
+    env_is : env_of b1.cells.signals.items ≡ E
+    env_is = ap env_of same
 
-  news_are : b3.raised.items ≡ seen.raised.news
-  news_are = kept ∙ seen.raised.is ∙ ap (λ z. z ++ seen.raised.news) (bare ∙ ready.raised)
+    news_are : b3.raised.items ≡ seen.raised.news
+    news_are = kept ∙ seen.raised.is ∙ ap (λ z. z ++ seen.raised.news) (bare ∙ ready.raised)
 
-  pub raises_put : AllPut (λ s n v. ProgramPuts (table_of K) (cells_in t) K.statement c E s n v) b3.raised.items
-  raises_put = subst (AllPut (λ s n v. ProgramPuts (table_of K) (cells_in t) K.statement c E s n v)) (sym news_are)
-      (subst (λ F. AllPut (λ s n v. ProgramPuts (table_of K) (cells_in t) K.statement c F s n v) seen.raised.news)
-      env_is seen.raised.put)
+    pub raises_put : AllPut (λ s n v. ProgramPuts (table_of K) (cells_in t) K.statement c E s n v)
+        b3.raised.items
+    raises_put = subst (AllPut (λ s n v. ProgramPuts (table_of K) (cells_in t) K.statement c E s n v))
+        (sym news_are)
+        (subst (λ F. AllPut (λ s n v. ProgramPuts (table_of K) (cells_in t) K.statement c F s n v)
+        seen.raised.news)
+        env_is seen.raised.put)
 
-  raises_change : AllPut (λ s n v. v ≢ cells_in t s n) b3.raised.items
-  raises_change = subst (AllPut (λ s n v. v ≢ cells_in t s n)) (sym news_are) seen.raised.changes
+    raises_change : AllPut (λ s n v. v ≢ cells_in t s n) b3.raised.items
+    raises_change = subst (AllPut (λ s n v. v ≢ cells_in t s n)) (sym news_are) seen.raised.changes
 
-  pub raises_placed : AllPut (λ s n v. HasPlace (replicate (loops_round K.statement + 1) (length K.signals)) s n)
-      b3.raised.items
-  raises_placed = put_same (λ s n v. ProgramPuts (table_of K) (cells_in t) K.statement c E s n v)
-      (λ s n v. HasPlace (replicate (loops_round K.statement + 1) (length K.signals)) s n) b3.raised.items
-      (λ s n v h. program_place (length K.signals) (loops_round K.statement + 1) (table_of K) (cells_in t)
-      K.statement c E s n v (rules_fit K rules) (omega arith) h) raises_put
+    pub raises_placed : AllPut (λ s n v. HasPlace (replicate (loops_round K.statement + 1) (length K.signals)) s
+        n)
+        b3.raised.items
+    raises_placed = put_same (λ s n v. ProgramPuts (table_of K) (cells_in t) K.statement c E s n v)
+        (λ s n v. HasPlace (replicate (loops_round K.statement + 1) (length K.signals)) s n) b3.raised.items
+        (λ s n v h. program_place (length K.signals) (loops_round K.statement + 1) (table_of K) (cells_in t)
+        K.statement c E s n v (rules_fit K rules) (omega arith) h) raises_put
 
-  pub raises_in : AllPut (λ s n v. HasPlace (shape_of t) s n) b3.raised.items
-  raises_in = subst (λ z. AllPut (λ s n v. HasPlace z s n) b3.raised.items) (sym ready.shape) raises_placed
+    pub raises_in : AllPut (λ s n v. HasPlace (shape_of t) s n) b3.raised.items
+    raises_in = subst (λ z. AllPut (λ s n v. HasPlace z s n) b3.raised.items) (sym ready.shape) raises_placed
 
-  module _ (t' : Statuses) (changed raises : Bool) (conc : Conclusions (table_of K) K.interface changed b2 b3)
-      (taken : Taken b3.raised.items (cells_in t) (cells_in t')) (none : raises ≡ false → b3.raised.items ≡ [])
-      (some : raises ≡ true → b3.raised.items ≡ [] → ⊥) where
-    abbrev F : Env
-    F = env_of b3.cells.signals.items
+    module _ (t' : Statuses) (changed raises : Bool) (conc : Conclusions (table_of K) K.interface changed b2 b3)
+        (taken : Taken b3.raised.items (cells_in t) (cells_in t')) (none : raises ≡ false → b3.raised.items ≡
+        [])
+        (some : raises ≡ true → b3.raised.items ≡ [] → ⊥) where
+      abbrev F : Env
+      F = env_of b3.cells.signals.items
 
-    env_seen : env_of b2.cells.signals.items ≡ E
-    env_seen = ap env_of seen.signals ∙ env_is
+      env_seen : env_of b2.cells.signals.items ≡ E
+      env_seen = ap env_of seen.signals ∙ env_is
 
-    abbrev a : MustCan
-    a = program_flat (table_of K) (cells_in t) K.statement c E
+      abbrev a : MustCan
+      a = program_flat (table_of K) (cells_in t) K.statement c E
 
-    abbrev bag : Bag
-    bag = given_all is
+      abbrev bag : Bag
+      bag = given_all is
 
-    solved_at : (s : ℕ) → s < K.interface → F s ≡ raised (table_of K) s (E s) (with_inputs is a)
-    solved_at s lt =
-        let T : Table = table_of K in
-        let a1 : MustCan = program_flat T (cells_in t) K.statement c (env_of b1.cells.signals.items) in
-        let f = ready.fresh s lt in
-        let x = given.adds s f.tally f.here in
-        let y = seen.tallies.adds s x.0 x.1 in
-        let q = y.2.adds (cells_of s (given_all is)) (cells_of s (given_all is))
-        (x.2.adds [] [] (f.none (T.kind s) (T.word s))) in
-        conc.solved s y.0 (cells_of s (given_all is) ++ cells_of s a1.must)
-        (cells_of s (given_all is) ++ cells_of s a1.can) lt y.1 q
-        ∙ ap (λ z. solved_by T s (z s) (cells_of s (given_all is) ++ cells_of s a1.must)
-        (cells_of s (given_all is) ++ cells_of s a1.can)) env_seen
-        ∙ ap (λ z. solved_by T s (E s)
-        (cells_of s (given_all is) ++ cells_of s (program_flat T (cells_in t) K.statement c z).must)
-        (cells_of s (given_all is) ++ cells_of s (program_flat T (cells_in t) K.statement c z).can)) env_is
-        ∙ ap (λ z. solved_by T s (E s) z (cells_of s (given_all is) ++ cells_of s a.can))
-        (sym (cells-append s (given_all is) a.must))
-        ∙ ap (λ z. solved_by T s (E s) (cells_of s (given_all is ++ a.must)) z)
-        (sym (cells-append s (given_all is) a.can))
+      solved_at : (s : ℕ) → s < K.interface → F s ≡ raised (table_of K) s (E s) (with_inputs is a)
+      solved_at s lt =
+          let T : Table = table_of K in
+          let a1 : MustCan = program_flat T (cells_in t) K.statement c (env_of b1.cells.signals.items) in
+          let f = ready.fresh s lt in
+          let x = given.adds s f.tally f.here in
+          let y = seen.tallies.adds s x.0 x.1 in
+          let q = y.2.adds (cells_of s (given_all is)) (cells_of s (given_all is))
+          (x.2.adds [] [] (f.none (T.kind s) (T.word s))) in
+          conc.solved s y.0 (cells_of s (given_all is) ++ cells_of s a1.must)
+          (cells_of s (given_all is) ++ cells_of s a1.can) lt y.1 q
+          ∙ ap (λ z. solved_by T s (z s) (cells_of s (given_all is) ++ cells_of s a1.must)
+          (cells_of s (given_all is) ++ cells_of s a1.can)) env_seen
+          ∙ ap (λ z. solved_by T s (E s)
+          (cells_of s (given_all is) ++ cells_of s (program_flat T (cells_in t) K.statement c z).must)
+          (cells_of s (given_all is) ++ cells_of s (program_flat T (cells_in t) K.statement c z).can)) env_is
+          ∙ ap (λ z. solved_by T s (E s) z (cells_of s (given_all is) ++ cells_of s a.can))
+          (sym (cells-append s (given_all is) a.must))
+          ∙ ap (λ z. solved_by T s (E s) (cells_of s (given_all is ++ a.must)) z)
+          (sym (cells-append s (given_all is) a.can))
 
-    first_raise : (rs : List Raise) → AllPut (λ s n v. v ≢ cells_in t s n) rs → AllPut
-        (λ s n v. HasPlace (replicate (loops_round K.statement + 1) (length K.signals)) s n) rs → Taken rs
-        (cells_in t) (cells_in t') → (rs ≡ [] → ⊥) → (s : ℕ) × (n : ℕ) × HasPlace
-        (replicate (loops_round K.statement + 1) (length K.signals)) s n × (cells_in t' s n ≢ cells_in t s n)
-    first_raise [] ch pl tk ne = absurd (ne refl)
-    first_raise (r ∷ rs) ch pl tk ne = (
-      r.signal,
-      r.level,
-      pl.0,
-      ⊎_elim (λ x. absurd (x.1 (r.known.status, r.known.value) (inl (refl, refl, refl))))
-          (λ x. put_at (λ s n v. v ≢ cells_in t s n) (r ∷ rs) r.signal r.level (cells_in t' r.signal r.level) ch x)
-          (tk r.signal r.level),
-    )
+      first_raise : (rs : List Raise) → AllPut (λ s n v. v ≢ cells_in t s n) rs → AllPut
+          (λ s n v. HasPlace (replicate (loops_round K.statement + 1) (length K.signals)) s n) rs → Taken rs
+          (cells_in t) (cells_in t') → (rs ≡ [] → ⊥) → (s : ℕ) × (n : ℕ) × HasPlace
+          (replicate (loops_round K.statement + 1) (length K.signals)) s n × (cells_in t' s n ≢ cells_in t s n)
+      first_raise [] ch pl tk ne = absurd (ne refl)
+      first_raise (r ∷ rs) ch pl tk ne = (
+        r.signal,
+        r.level,
+        pl.0,
+        ⊎_elim (λ x. absurd (x.1 (r.known.status, r.known.value) (inl (refl, refl, refl))))
+            (λ x. put_at (λ s n v. v ≢ cells_in t s n) (r ∷ rs) r.signal r.level (cells_in t' r.signal r.level)
+            ch x)
+            (tk r.signal r.level),
+      )
 
-    pub round_went : Went K c is (changed || raises) (env_of b0.cells.signals.items)
-        (env_of b3.cells.signals.items) (cells_in t) (cells_in t')
-    round_went = record {
-      interface = solved_at;
-      others = λ s le. conc.others s le ∙ ap (λ z. z s) env_seen;
-      puts = λ s n. ⊎_elim (λ x. inl x.0)
-          (λ x. inr (put_at (λ s n v. ProgramPuts (table_of K) (cells_in t) K.statement c E s n v) b3.raised.items s n
-          (cells_in t' s n) raises_put x)) (taken s n);
-      same = λ e s. conc.same (or_first changed raises e) s ∙ ap (λ z. z s) env_seen;
-      stays = λ e s n.
-          let em = none (or_second changed raises e) in
-          let tk : Taken [] (cells_in t) (cells_in t') = subst (λ z. Taken z (cells_in t) (cells_in t')) em taken in
-          ⊎_elim (λ x. x.0) (λ x. absurd x) (tk s n);
-      stands = λ e. subst (ProgramStands (table_of K) (cells_in t) K.statement c) env_is
-          (seen.raised.still (sym news_are ∙ none (or_second changed raises e)));
-      other = λ e. ⊎_elim
-          (λ x. let r = conc.other x in inl (r.0, r.1, λ q. r.2 (q ∙ sym (ap (λ z. z r.0) env_seen))))
-          (λ x. inr (first_raise b3.raised.items raises_change raises_placed taken (some x)))
-          (or_either changed raises e);
-    }
+      pub round_went : Went K c is (changed || raises) (env_of b0.cells.signals.items)
+          (env_of b3.cells.signals.items) (cells_in t) (cells_in t')
+      round_went = record {
+        interface = solved_at;
+        others = λ s le. conc.others s le ∙ ap (λ z. z s) env_seen;
+        puts = λ s n. ⊎_elim (λ x. inl x.0)
+            (λ x. inr (put_at (λ s n v. ProgramPuts (table_of K) (cells_in t) K.statement c E s n v)
+            b3.raised.items s n
+            (cells_in t' s n) raises_put x)) (taken s n);
+        same = λ e s. conc.same (or_first changed raises e) s ∙ ap (λ z. z s) env_seen;
+        stays = λ e s n.
+            let em = none (or_second changed raises e) in
+            let tk : Taken [] (cells_in t) (cells_in t') = subst (λ z. Taken z (cells_in t) (cells_in t')) em
+            taken in
+            ⊎_elim (λ x. x.0) (λ x. absurd x) (tk s n);
+        stands = λ e. subst (ProgramStands (table_of K) (cells_in t) K.statement c) env_is
+            (seen.raised.still (sym news_are ∙ none (or_second changed raises e)));
+        other = λ e. ⊎_elim
+            (λ x. let r = conc.other x in inl (r.0, r.1, λ q. r.2 (q ∙ sym (ap (λ z. z r.0) env_seen))))
+            (λ x. inr (first_raise b3.raised.items raises_change raises_placed taken (some x)))
+            (or_either changed raises e);
+      }
 
-    pub round_ready : (b4 : Pass) → b4.cells.signals.items ≡ b3.cells.signals.items → b4.cells.args.items ≡
-        b3.cells.args.items → b4.tallies.items ≡ b3.tallies.items → b4.raised.items ≡ [] → b1.cells.args.items ≡
-        b0.cells.args.items → shape_of t' ≡ shape_of t → Ready K t' b4
-    round_ready b4 es ea et er e1 sh = record {
-      args = ea ∙ conc.args ∙ seen.args ∙ e1 ∙ ready.args;
-      signals = ap length es ∙ conc.signals ∙ ap length (seen.signals ∙ same) ∙ ready.signals;
-      tallies = ap length et ∙ conc.tallies ∙ seen.tallies.count ∙ given.count ∙ ready.tallies;
-      fresh = λ s lt. subst (λ z. IsFresh z s) (sym et) (conc.fresh s lt);
-      raised = er;
-      shape = sh ∙ ready.shape;
-    }
+      pub round_ready : (b4 : Pass) → b4.cells.signals.items ≡ b3.cells.signals.items → b4.cells.args.items ≡
+          b3.cells.args.items → b4.tallies.items ≡ b3.tallies.items → b4.raised.items ≡ [] → b1.cells.args.items
+          ≡
+          b0.cells.args.items → shape_of t' ≡ shape_of t → Ready K t' b4
+      round_ready b4 es ea et er e1 sh = record {
+        args = ea ∙ conc.args ∙ seen.args ∙ e1 ∙ ready.args;
+        signals = ap length es ∙ conc.signals ∙ ap length (seen.signals ∙ same) ∙ ready.signals;
+        tallies = ap length et ∙ conc.tallies ∙ seen.tallies.count ∙ given.count ∙ ready.tallies;
+        fresh = λ s lt. subst (λ z. IsFresh z s) (sym et) (conc.fresh s lt);
+        raised = er;
+        shape = sh ∙ ready.shape;
+      }

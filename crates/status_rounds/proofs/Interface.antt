@@ -36,7 +36,8 @@ pub differ_from : (k : ℕ) (is : List (ℕ × Value)) (ls : List Last) → Diff
 differ_from k is [] = tt
 differ_from k is (l ∷ ls) = (not_from (suc k) k is ls (omega arith), differ_from (suc k) is ls)
 
-pub outside_from : (k s : ℕ) (is : List (ℕ × Value)) (ls : List Last) → NotIn s (outers_from k is ls) → k ≤ s → s
+pub outside_from : (k s : ℕ) (is : List (ℕ × Value)) (ls : List Last) → NotIn s (outers_from k is ls) → k ≤ s
+    → s
     < k + length ls → ⊥
 outside_from k s is [] n a b = omega (arith, a, b)
 outside_from k s is (l ∷ ls) n a b =
@@ -66,12 +67,14 @@ abbrev first_given : Option Value → List Cell
 first_given (Some v) = cell.Known v ∷ []
 first_given None = []
 
-none_given : (s : ℕ) (i : ℕ × Value) (is : List (ℕ × Value)) → i.0 ≡ s → AllByRecursion (λ j. i.0 ≢ j.0) is → cells_of
+none_given : (s : ℕ) (i : ℕ × Value) (is : List (ℕ × Value)) → i.0 ≡ s → AllByRecursion (λ j. i.0 ≢ j.0) is →
+    cells_of
     s (given_all is) ≡ []
 none_given s i [] e h = refl
 none_given s i (j ∷ is) e h =
     let d : (j.0 == s) ≡ false = differs j.0 s (λ q. h.0 (e ∙ sym q)) in
-    ap (λ b. cond b (cell.Known j.1 ∷ cells_of s (given_all is)) (cells_of s (given_all is))) d ∙ none_given s i
+    ap (λ b. cond b (cell.Known j.1 ∷ cells_of s (given_all is)) (cells_of s (given_all is))) d ∙ none_given s
+    i
     is e h.1
 
 only_given : (s : ℕ) (is : List (ℕ × Value)) → NoneTwice is → cells_of s (given_all is) ≡ first_given
@@ -79,7 +82,8 @@ only_given : (s : ℕ) (is : List (ℕ × Value)) → NoneTwice is → cells_of 
 only_given s [] h = refl
 only_given s (i ∷ is) h = at_test (only_given s is h.1) (i.0 == s) refl
   where
-    at_test : cells_of s (given_all is) ≡ first_given (given_to is s) → (b : Bool) → (i.0 == s) ≡ b → cond (i.0 == s) (cell.Known i.1 ∷ cells_of s (given_all is))
+    at_test : cells_of s (given_all is) ≡ first_given (given_to is s) → (b : Bool) → (i.0 == s) ≡ b → cond
+        (i.0 == s) (cell.Known i.1 ∷ cells_of s (given_all is))
         (cells_of s (given_all is)) ≡ first_given (cond (i.0 == s) (Some i.1) (given_to is s))
     at_test r true e =
         ap (λ b. cond b (cell.Known i.1 ∷ cells_of s (given_all is)) (cells_of s (given_all is))) e
@@ -111,7 +115,8 @@ given_other s o bag e =
     cells-without-other s o.signal (given_bag o ++ bag) e ∙ cells-append s (given_bag o) bag ∙ ap
     (λ z. z ++ cells_of s bag) (bag_other s o.signal o.given o.last e)
 
-must_scoped : (s : ℕ) (os : List Outer) (a : MustCan) → NotIn s os → cells_of s (scopes os a).must ≡ cells_of s
+must_scoped : (s : ℕ) (os : List Outer) (a : MustCan) → NotIn s os → cells_of s (scopes os a).must ≡ cells_of
+    s
     a.must
 must_scoped s [] a h = refl
 must_scoped s (o ∷ os) a h = given_other s o (scopes os a).must h.0 ∙ must_scoped s os a h.1
@@ -161,7 +166,8 @@ moves_from T k is (l ∷ ls) a F F' h g = (
 
 pub stands_from : (T : Table) (k : ℕ) (is : List (ℕ × Value)) (ls : List Last) (a : MustCan) (F : Env) →
     NoneTwice is → ((s : ℕ) → s < k + length ls → raised T s (F s) (with_inputs is a) ≡ F s) →
-    ((o : Outer) → Contains o (outers_from k is ls) → ((F o.signal).pre ≡ o.last.status) × ((F o.signal).preval ≡
+    ((o : Outer) → Contains o (outers_from k is ls) → ((F o.signal).pre ≡ o.last.status) ×
+    ((F o.signal).preval ≡
     o.last.val)) → StandsAll T (outers_from k is ls) a F
 stands_from T k is [] a F h g last = tt
 stands_from T k is (l ∷ ls) a F h g last =

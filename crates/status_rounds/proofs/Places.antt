@@ -28,7 +28,8 @@ has_place S N d (Local u p) s f (inr h) = has_place S N d p s f.1 h
 has_place S N d _ s f h = absurd h
 
 module _ (S N : ℕ) (T : Table) (τ : Cells) (s n : ℕ) (v : Tri × Cell) where
-  pub puts_level : (p : Statement) (d l : ℕ) (t : Task) (i : Index) (E : Env) → Fits S N d p → l < N → Puts T τ
+  pub puts_level : (p : Statement) (d l : ℕ) (t : Task) (i : Index) (E : Env) → Fits S N d p → l < N → Puts T
+      τ
       p d l t i E s n v → n < N
   puts_level (If e p q) d l Start i E f ln h = ⊎_elim (λ x. x) (λ x. x)
       (chosen_key (eval_of e E []) i (λ j. Puts T τ p d l Start j E s n v)

@@ -17,7 +17,8 @@ use Rattle.hh_term.proofs.Interface.{given_up, given_within}
 use Rattle.status_table.specs.Flat.{Cells}
 use Rattle.status_rounds.specs.Rounds.{ProgramPuts}
 use Rattle.status_table.specs.Moving.{Unique, nothing_known}
-use Rattle.status_table.specs.WholeProgram.{Contains, scopes, NotIn, Different, MovesAll, opened, program_flat}
+use Rattle.status_table.specs.WholeProgram.{Contains, scopes, NotIn, Different, MovesAll, opened}
+use Rattle.status_table.specs.WholeProgram.{program_flat}
 use Rattle.status_table.specs.WholeProgram.{ProgramMoves, Reaches, begins, goes_on}
 use Rattle.status_table.proofs.FlatLaws.{flat_fair}
 use Rattle.status_table.proofs.Outers.{scopes_up, scopes_within}
@@ -36,18 +37,21 @@ ProgramRising T τ p Ended E = Unit {0}
 abbrev RisingAll : Table → List Outer → MustCan → Env → Type 0
 RisingAll T [] a F = Unit {0}
 RisingAll T (o ∷ os) a F =
-    SignalBelow (F o.signal) (raised T o.signal (F o.signal) (with_given o (scopes os a))) × RisingAll T os a F
+    SignalBelow (F o.signal) (raised T o.signal (F o.signal) (with_given o (scopes os a))) × RisingAll T os a
+    F
 
-pub record Sound (T : Table) (os : List Outer) (p : Statement) (c : Control) (F : Env) (τ : Cells) : Type 0 where
-  pub reaches : Reaches T os p c F τ
-  pub rising : ProgramRising T τ p c F
-  pub interface : RisingAll T os (program_flat T τ p c F) F
-  pub last : (o : Outer) → Contains o os → ((F o.signal).pre ≡ o.last.status) × ((F o.signal).preval ≡
-      o.last.val)
+pub record Sound (T : Table) (os : List Outer) (p : Statement) (c : Control) (F : Env) (τ : Cells) : Type 0
+  where
+    pub reaches : Reaches T os p c F τ
+    pub rising : ProgramRising T τ p c F
+    pub interface : RisingAll T os (program_flat T τ p c F) F
+    pub last : (o : Outer) → Contains o os → ((F o.signal).pre ≡ o.last.status) × ((F o.signal).preval ≡
+        o.last.val)
 
 -- ---- the parts of a program
 
-program_up : (T : Table) (τ τ' : Cells) (p : Statement) (c : Control) (E F : Env) → EnvBelow E F → TableBelow τ
+program_up : (T : Table) (τ τ' : Cells) (p : Statement) (c : Control) (E F : Env) → EnvBelow E F → TableBelow
+    τ
     τ' → MustCanBelow (program_flat T τ p c E) (program_flat T τ' p c F)
 program_up T τ τ' p Fresh E F g z = flat_up T τ τ' p 0 0 Start Executed Executed E F refl g z
 program_up T τ τ' p (At m) E F g z = flat_up T τ τ' p 0 0 (Resume m) Executed Executed E F refl g z
@@ -59,7 +63,8 @@ program_within T τ p Fresh E = (flat_fair T τ p 0 0 Start E).within Executed
 program_within T τ p (At m) E = (flat_fair T τ p 0 0 (Resume m) E).within Executed
 program_within T τ p Ended E = record { must = ended; code = λ c e. cc }
 
-program_risen : (T : Table) (τ τ' : Cells) (p : Statement) (c : Control) (E F : Env) → EnvBelow E F → TableBelow
+program_risen : (T : Table) (τ τ' : Cells) (p : Statement) (c : Control) (E F : Env) → EnvBelow E F →
+    TableBelow
     τ τ' → Unique p → ProgramRising T τ p c E → ProgramMoves T τ τ' p c E → ProgramRising T τ' p c F
 program_risen T τ τ' p Fresh E F g z u k m = risen T τ τ' p 0 0 Start Executed Executed E F refl g z
     (omega arith) u k m
@@ -72,7 +77,8 @@ program_start T p Fresh E = rising_start T p 0 0 Start Executed E
 program_start T p (At m) E = rising_start T p 0 0 (Resume m) Executed E
 program_start T p Ended E = tt
 
-pub program_above : (T : Table) (τ : Cells) (p : Statement) (c : Control) (E : Env) (s n : ℕ) (v : Tri × Cell) →
+pub program_above : (T : Table) (τ : Cells) (p : Statement) (c : Control) (E : Env) (s n : ℕ) (v : Tri × Cell)
+    →
     ProgramRising T τ p c E → ProgramPuts T τ p c E s n v → Above τ s n v
 program_above T τ p Fresh E s n v k h = puts_above T τ p 0 0 Start Executed E s n v k h
 program_above T τ p (At m) E s n v k h = puts_above T τ p 0 0 (Resume m) Executed E s n v k h
@@ -96,9 +102,11 @@ opened_last : (os : List Outer) → Different os → (o : Outer) → Contains o 
 opened_last [] d o c = absurd c
 opened_last (u ∷ os) d o (inl e) =
     let t : (o.signal == u.signal) ≡ true = eq-eqb o.signal u.signal (ap (λ x. x.signal) e) in (
-      ap (λ b. (cond b (unsolved u.last.status u.last.val) (opened os o.signal)).pre) t ∙ ap (λ x. x.last.status)
+      ap (λ b. (cond b (unsolved u.last.status u.last.val) (opened os o.signal)).pre) t ∙ ap
+          (λ x. x.last.status)
           (sym e),
-      ap (λ b. (cond b (unsolved u.last.status u.last.val) (opened os o.signal)).preval) t ∙ ap (λ x. x.last.val)
+      ap (λ b. (cond b (unsolved u.last.status u.last.val) (opened os o.signal)).preval) t ∙ ap
+          (λ x. x.last.val)
           (sym e),
     )
 opened_last (u ∷ os) d o (inr c) =
@@ -167,7 +175,8 @@ module _ (T : Table) (a a' : MustCan) (F F' : Env) where
           (moved_below o os r.0 m.0)
       at_test g false e = g (λ n. f (e, n))
 
-  interface_risen : (os : List Outer) → MustCanBelow a a' → MustWithinCan a' → RisingAll T os a F → MovesAll T os
+  interface_risen : (os : List Outer) → MustCanBelow a a' → MustWithinCan a' → RisingAll T os a F → MovesAll T
+      os
       a F F' → RisingAll T os a' F'
   interface_risen [] h w r m = tt
   interface_risen (o ∷ os) h w r m = (at_move m.0, interface_risen os h w r.1 m.1)
@@ -195,7 +204,8 @@ module _ (T : Table) (a a' : MustCan) (F F' : Env) where
       at_move (inr e) = subst
           (λ z. SignalBelow z (raised T o.signal (F' o.signal) (with_given o (scopes os a')))) (sym e) up
 
-pub record Onward (T : Table) (os : List Outer) (p : Statement) (c : Control) (F F' : Env) (τ τ' : Cells) : Type 0
+pub record Onward (T : Table) (os : List Outer) (p : Statement) (c : Control) (F F' : Env) (τ τ' : Cells) :
+    Type 0
   where
     pub sound : Sound T os p c F' τ'
     pub env : EnvBelow F F'
@@ -203,7 +213,8 @@ pub record Onward (T : Table) (os : List Outer) (p : Statement) (c : Control) (F
 
 pub sound_round : (T : Table) (os : List Outer) (p : Statement) (c : Control) (F F' : Env) (τ τ' : Cells) →
     Unique p → Sound T os p c F τ → MovesAll T os (program_flat T τ p c F) F F' →
-    ((s : ℕ) → NotIn s os → F' s ≡ F s) → ((s n : ℕ) → (τ' s n ≡ τ s n) ⊎ ProgramPuts T τ p c F s n (τ' s n)) →
+    ((s : ℕ) → NotIn s os → F' s ≡ F s) → ((s n : ℕ) → (τ' s n ≡ τ s n) ⊎ ProgramPuts T τ p c F s n (τ' s n))
+    →
     Onward T os p c F F' τ τ'
 sound_round T os p c F F' τ τ' u h m out mv =
     let a : MustCan = program_flat T τ p c F in

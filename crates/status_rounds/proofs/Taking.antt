@@ -31,7 +31,8 @@ same_or_other s n = ⊎_elim (λ lt. inr (λ z. absurd (omega (arith, z, lt))))
     (λ le. ⊎_elim (λ gt. inr (λ z. absurd (omega (arith, z, gt)))) (λ ge. inl (omega (arith, le, ge)))
     (cases_lt n s)) (cases_lt s n)
 
-pub one_taken : (all left : List Raise) (r : Raise) (τ0 τ1 τ2 : Cells) → Taking all (left ++ r ∷ []) τ0 τ1 → PutsOne
+pub one_taken : (all left : List Raise) (r : Raise) (τ0 τ1 τ2 : Cells) → Taking all (left ++ r ∷ []) τ0 τ1 →
+    PutsOne
     r τ1 τ2 → Taking all left τ0 τ2
 one_taken all left r τ0 τ1 τ2 h g = record {
   done = r ∷ h.done;
@@ -40,7 +41,8 @@ one_taken all left r τ0 τ1 τ2 h g = record {
 }
   where
     away : (s n : ℕ) → (s ≢ r.signal) ⊎ (n ≢ r.level) →
-        ((τ2 s n ≡ τ0 s n) × ((v : Tri × Cell) → IsPut (r ∷ h.done) s n v → ⊥)) ⊎ IsPut (r ∷ h.done) s n (τ2 s n)
+        ((τ2 s n ≡ τ0 s n) × ((v : Tri × Cell) → IsPut (r ∷ h.done) s n v → ⊥)) ⊎ IsPut (r ∷ h.done) s n
+        (τ2 s n)
     away s n d =
         let stays : τ2 s n ≡ τ1 s n = g.others s n d in
         ⊎_elim
@@ -53,7 +55,8 @@ one_taken all left r τ0 τ1 τ2 h g = record {
         (h.taken s n)
 
     at_place : (s n : ℕ) → (s ≡ r.signal) ⊎ (s ≢ r.signal) → (n ≡ r.level) ⊎ (n ≢ r.level) →
-        ((τ2 s n ≡ τ0 s n) × ((v : Tri × Cell) → IsPut (r ∷ h.done) s n v → ⊥)) ⊎ IsPut (r ∷ h.done) s n (τ2 s n)
+        ((τ2 s n ≡ τ0 s n) × ((v : Tri × Cell) → IsPut (r ∷ h.done) s n v → ⊥)) ⊎ IsPut (r ∷ h.done) s n
+        (τ2 s n)
     at_place s n (inl e) (inl f) = inr (inl (sym e, sym f, ap (τ2 s) f ∙ ap (λ z. τ2 z r.level) e ∙ g.here))
     at_place s n (inr d) f = away s n (inl d)
     at_place s n (inl e) (inr d) = away s n (inr d)
@@ -68,12 +71,14 @@ pub put_parts : (Q : ℕ → ℕ → Tri × Cell → Type 0) (xs : List Raise) (
 put_parts Q [] x h = (tt, h.0)
 put_parts Q (y ∷ xs) x h = let r = put_parts Q xs x h.1 in ((h.0, r.0), r.1)
 
-pub put_same : (Q R : ℕ → ℕ → Tri × Cell → Type 0) (xs : List Raise) → ((s n : ℕ) (v : Tri × Cell) → Q s n v → R s
+pub put_same : (Q R : ℕ → ℕ → Tri × Cell → Type 0) (xs : List Raise) → ((s n : ℕ) (v : Tri × Cell) → Q s n v →
+    R s
     n v) → AllPut Q xs → AllPut R xs
 put_same Q R [] f h = tt
 put_same Q R (x ∷ xs) f h = (f x.signal x.level (x.known.status, x.known.value) h.0, put_same Q R xs f h.1)
 
-pub put_at : (Q : ℕ → ℕ → Tri × Cell → Type 0) (xs : List Raise) (s n : ℕ) (v : Tri × Cell) → AllPut Q xs → IsPut
+pub put_at : (Q : ℕ → ℕ → Tri × Cell → Type 0) (xs : List Raise) (s n : ℕ) (v : Tri × Cell) → AllPut Q xs →
+    IsPut
     xs s n v → Q s n v
 put_at Q [] s n v h g = absurd g
 put_at Q (x ∷ xs) s n v h (inl e) =
@@ -89,15 +94,18 @@ some_same x y e = cc
 items_of : Vec Known Global → List Known
 items_of r = r.items
 
-map_set_same : {A B : Type 0} (f : A → B) (xs : List A) (i : ℕ) (x y : A) → slice_get xs i ≡ Some x → f y ≡ f x →
+map_set_same : {A B : Type 0} (f : A → B) (xs : List A) (i : ℕ) (x y : A) → slice_get xs i ≡ Some x → f y ≡ f
+    x →
     map f (set xs i y) ≡ map f xs
 map_set_same f [] i x y e g = refl
 map_set_same f (z ∷ xs) zero x y e g = let q : z ≡ x = some_same z x e in ap (λ b. b ∷ map f xs)
     (g ∙ ap f (sym q))
 map_set_same f (z ∷ xs) (suc i) x y e g = ap (λ l. f z ∷ l) (map_set_same f xs i x y e g)
 
-pub put_shape : (t u : Statuses) (l i : ℕ) (k : Known) (row row' : Vec Known Global) → slice_get t.rows.items l ≡
-    Some row → row'.items ≡ set row.items i k → u.rows.items ≡ set t.rows.items l row' → shape_of u ≡ shape_of t
+pub put_shape : (t u : Statuses) (l i : ℕ) (k : Known) (row row' : Vec Known Global) → slice_get t.rows.items
+    l ≡
+    Some row → row'.items ≡ set row.items i k → u.rows.items ≡ set t.rows.items l row' → shape_of u ≡ shape_of
+    t
 put_shape t u l i k row row' e f g = ap (map (λ r. length r.items)) g ∙ map_set_same (λ r. length r.items)
     t.rows.items l row row' e (ap length f ∙ length-set row.items i k)
 
@@ -105,8 +113,10 @@ row_at : (t : Statuses) (n : ℕ) (row : Vec Known Global) → slice_get t.rows.
     (map (λ r. r.items) t.rows.items) n ≡ Some row.items
 row_at t n row e = slice_get-map (λ r. r.items) t.rows.items n ∙ ap (option_map (λ r. r.items)) e
 
-pub puts_one : (t u : Statuses) (r : Raise) (row row' : Vec Known Global) → slice_get t.rows.items r.level ≡ Some
-    row → row'.items ≡ set row.items r.signal r.known → u.rows.items ≡ set t.rows.items r.level row' → r.signal <
+pub puts_one : (t u : Statuses) (r : Raise) (row row' : Vec Known Global) → slice_get t.rows.items r.level ≡
+    Some
+    row → row'.items ≡ set row.items r.signal r.known → u.rows.items ≡ set t.rows.items r.level row' →
+    r.signal <
     length row.items → PutsOne r (cells_in t) (cells_in u)
 puts_one t u r row row' e f g lt = record {
   here = ap (λ z. in_row z r.signal) new_row ∙ ap (λ z. of_known (slice_get z r.signal)) f ∙ ap of_known
@@ -118,7 +128,8 @@ puts_one t u r row row' e f g lt = record {
     room = slice_get_within t.rows.items r.level row e
 
     new_row : slice_get (map (λ r. r.items) u.rows.items) r.level ≡ Some row'.items
-    new_row = row_at u r.level row' (ap (λ z. slice_get z r.level) g ∙ set_here t.rows.items r.level row' room)
+    new_row = row_at u r.level row' (ap (λ z. slice_get z r.level) g ∙ set_here t.rows.items r.level row'
+        room)
 
     at_level : (s n : ℕ) → (s ≢ r.signal) ⊎ (n ≢ r.level) → (n ≡ r.level) ⊎ (n ≢ r.level) → cells_in u s n ≡
         cells_in t s n
@@ -127,7 +138,8 @@ puts_one t u r row row' e f g lt = record {
         (ap (λ z. slice_get z n) g ∙ set_other t.rows.items r.level n row' away) ∙ sym
         (slice_get-map (λ r. r.items) t.rows.items n))
     at_level s n d (inl here) = ⊎_elim
-        (λ ns. ap (cells_in u s) here ∙ ap (λ z. in_row z s) new_row ∙ ap (λ z. of_known (slice_get z s)) f ∙ ap
+        (λ ns. ap (cells_in u s) here ∙ ap (λ z. in_row z s) new_row ∙ ap (λ z. of_known (slice_get z s)) f ∙
+        ap
         of_known (set_other row.items r.signal s r.known ns) ∙ sym
         (ap (cells_in t s) here ∙ ap (λ z. in_row z s) (row_at t r.level row e)))
         (λ away. absurd (away here)) d
@@ -140,5 +152,6 @@ pub place_signal : (t : Statuses) (s n : ℕ) (row : Vec Known Global) → HasPl
     t.rows.items n ≡ Some row → s < length row.items
 place_signal t s n row h e =
     let q : h.0 ≡ length row.items = some_same h.0 (length row.items)
-    (sym h.1 ∙ slice_get-map (λ r. length r.items) t.rows.items n ∙ ap (option_map (λ r. length r.items)) e) in
+    (sym h.1 ∙ slice_get-map (λ r. length r.items) t.rows.items n ∙ ap (option_map (λ r. length r.items)) e)
+    in
     subst (λ k. s < k) q h.2

@@ -1,5 +1,6 @@
 -- How much is unknown: each round that is not the last leaves less.
-use Rattle.std.proofs.Common.{◌≡◌, refl, sym, ap, ◌∙◌, subst, ℕ, zero, suc, ◌+◌, ◌<◌, ◌≤◌, ◌⊎◌, inl, inr, ⊎_elim}
+use Rattle.std.proofs.Common.{◌≡◌, refl, sym, ap, ◌∙◌, subst, ℕ, zero, suc, ◌+◌, ◌<◌, ◌≤◌, ◌⊎◌, inl, inr}
+use Rattle.std.proofs.Common.{⊎_elim}
 use Rattle.std.proofs.Common.{arith}
 use Rattle.std.proofs.lemmas.Bool.{cases_lt}
 use Rattle.hh_base.specs.declared.value.Tri.{Tri}
@@ -71,7 +72,8 @@ pub sum_most : (n : ℕ) (f g : ℕ → ℕ) → ((k : ℕ) → g k ≤ f k) →
 sum_most zero f g h = omega arith
 sum_most (suc n) f g h = let a = h n in let b = sum_most n f g h in omega (arith, a, b)
 
-pub sum_fewer : (n k : ℕ) (f g : ℕ → ℕ) → ((k : ℕ) → g k ≤ f k) → k < n → g k < f k → sum_below n g < sum_below
+pub sum_fewer : (n k : ℕ) (f g : ℕ → ℕ) → ((k : ℕ) → g k ≤ f k) → k < n → g k < f k → sum_below n g <
+    sum_below
     n f
 sum_fewer zero k f g h lt l = absurd (omega (arith, lt))
 sum_fewer (suc n) k f g h lt l = ⊎_elim
@@ -92,7 +94,8 @@ table_most : (S N : ℕ) (τ τ' : Cells) → ((s n : ℕ) → Better (τ s n) (
     (λ n. sum_below S (λ s. unknowns (τ' s n))) ≤ sum_below N (λ n. sum_below S (λ s. unknowns (τ s n)))
 table_most S N τ τ' h = sum_most N (λ n. sum_below S (λ s. unknowns (τ s n)))
     (λ n. sum_below S (λ s. unknowns (τ' s n)))
-    (λ n. sum_most S (λ s. unknowns (τ s n)) (λ s. unknowns (τ' s n)) (λ s. pair_most (τ s n) (τ' s n) (h s n)))
+    (λ n. sum_most S (λ s. unknowns (τ s n)) (λ s. unknowns (τ' s n)) (λ s. pair_most (τ s n) (τ' s n)
+    (h s n)))
 
 abbrev shown : SigCell → Tri × Cell
 shown c = (c.status, c.value)
@@ -100,7 +103,8 @@ shown c = (c.status, c.value)
 same_signal : (c d : SigCell) → SignalBelow c d → shown d ≡ shown c → d ≡ c
 same_signal c d h e =
     ap (λ x. let r : SigCell = record { status = x.0; value = x.1; pre = d.pre; preval = d.preval } in r) e
-    ∙ ap (λ x. let r : SigCell = record { status = c.status; value = c.value; pre = x; preval = d.preval } in r)
+    ∙ ap (λ x. let r : SigCell = record { status = c.status; value = c.value; pre = x; preval = d.preval } in
+    r)
     (sym h.pre)
     ∙ ap (λ x. let r : SigCell = record { status = c.status; value = c.value; pre = c.pre; preval = x } in r)
     (sym h.preval)
@@ -119,12 +123,15 @@ fewer_in_env I S N s F F' τ τ' h g lt other =
 
 -- a place of the table changed
 pub fewer_in_table : (I S N s n : ℕ) (F F' : Env) (τ τ' : Cells) → ((s : ℕ) → SignalBelow (F s) (F' s)) →
-    ((s n : ℕ) → Better (τ s n) (τ' s n)) → s < S → n < N → (τ' s n ≡ τ s n → ⊥) → left_in I S N F' τ' < left_in
+    ((s n : ℕ) → Better (τ s n) (τ' s n)) → s < S → n < N → (τ' s n ≡ τ s n → ⊥) → left_in I S N F' τ' <
+    left_in
     I S N F τ
 fewer_in_table I S N s n F F' τ τ' h g ls ln other =
     let a = env_most I F F' h in
-    let b = sum_fewer N n (λ n. sum_below S (λ s. unknowns (τ s n))) (λ n. sum_below S (λ s. unknowns (τ' s n)))
-    (λ n. sum_most S (λ s. unknowns (τ s n)) (λ s. unknowns (τ' s n)) (λ s. pair_most (τ s n) (τ' s n) (h' s n)))
+    let b = sum_fewer N n (λ n. sum_below S (λ s. unknowns (τ s n))) (λ n. sum_below S (λ s. unknowns
+    (τ' s n)))
+    (λ n. sum_most S (λ s. unknowns (τ s n)) (λ s. unknowns (τ' s n)) (λ s. pair_most (τ s n) (τ' s n)
+    (h' s n)))
     ln (sum_fewer S s (λ s. unknowns (τ s n)) (λ s. unknowns (τ' s n))
     (λ s. pair_most (τ s n) (τ' s n) (g s n)) ls (pair_fewer (τ s n) (τ' s n) (g s n) other)) in
     omega (arith, a, b)

@@ -65,7 +65,8 @@ pub record Concluded (T : Table) (s : ℕ) (changed : Bool) (before after : Pass
   pub fresh : Tally
   pub tallies : after.tallies.items ≡ set before.tallies.items s fresh
   pub none : (k : Kind) (w : Option CombineWord) → fresh ≡ tally_of k w [] []
-  pub solved : (t : Tally) (m d : List Cell) → slice_get before.tallies.items s ≡ Some t → t ≡ tally_of (T.kind s)
+  pub solved : (t : Tally) (m d : List Cell) → slice_get before.tallies.items s ≡ Some t → t ≡ tally_of
+      (T.kind s)
       (T.word s) m d → cell ≡ solved_by T s (env_of before.cells.signals.items s) m d
   pub same : changed ≡ false → cell ≡ env_of before.cells.signals.items s
   pub other : changed ≡ true → cell ≢ env_of before.cells.signals.items s
@@ -82,7 +83,8 @@ pub record Conclusions (T : Table) (n : ℕ) (changed : Bool) (before after : Pa
   pub fresh : (s : ℕ) → s < n → IsFresh after.tallies.items s
   pub others : (s : ℕ) → n ≤ s → env_of after.cells.signals.items s ≡ env_of before.cells.signals.items s
   pub waiting : (s : ℕ) → n ≤ s → slice_get after.tallies.items s ≡ slice_get before.tallies.items s
-  pub same : changed ≡ false → (s : ℕ) → env_of after.cells.signals.items s ≡ env_of before.cells.signals.items s
+  pub same : changed ≡ false → (s : ℕ) → env_of after.cells.signals.items s ≡ env_of
+      before.cells.signals.items s
   pub other : changed ≡ true → (s : ℕ) × (s < n) × (env_of after.cells.signals.items s ≢ env_of
       before.cells.signals.items s)
 
@@ -96,11 +98,13 @@ HasPlace shape s n = (k : ℕ) × (slice_get shape n ≡ Some k) × (s < k)
 -- one of these raises puts this at this place
 abbrev pub IsPut : List Raise → ℕ → ℕ → Tri × Cell → Type 0
 IsPut [] s n v = ⊥
-IsPut (r ∷ rs) s n v = ((r.signal ≡ s) × (r.level ≡ n) × (v ≡ (r.known.status, r.known.value))) ⊎ IsPut rs s n v
+IsPut (r ∷ rs) s n v = ((r.signal ≡ s) × (r.level ≡ n) × (v ≡ (r.known.status, r.known.value))) ⊎ IsPut rs s n
+    v
 
 -- each place has what one of the raises puts there, or none puts anything there and it stays
 abbrev pub Taken : List Raise → Cells → Cells → Type 0
-Taken rs τ τ' = (s n : ℕ) → ((τ' s n ≡ τ s n) × ((v : Tri × Cell) → IsPut rs s n v → ⊥)) ⊎ IsPut rs s n (τ' s n)
+Taken rs τ τ' = (s n : ℕ) → ((τ' s n ≡ τ s n) × ((v : Tri × Cell) → IsPut rs s n v → ⊥)) ⊎ IsPut rs s n
+    (τ' s n)
 
 -- the table has what this raise puts at its place, and is as before at all others
 pub record PutsOne (r : Raise) (τ τ' : Cells) : Type 0 where
@@ -117,7 +121,8 @@ pub record Ready (K : Kernel) (table : Statuses) (pass : Pass) : Type 0 where
   pub shape : shape_of table ≡ replicate (loops_round K.statement + 1) (length K.signals)
 
 -- what a round makes of an environment and a table, and whether it changed something
-pub record Went (K : Kernel) (c : Control) (is : List (ℕ × Value)) (more : Bool) (E F : Env) (τ τ' : Cells) : Type
+pub record Went (K : Kernel) (c : Control) (is : List (ℕ × Value)) (more : Bool) (E F : Env) (τ τ' : Cells) :
+    Type
     0 where
   pub interface : (s : ℕ) → s < K.interface → F s ≡ raised (table_of K) s (E s)
       (with_inputs is (program_flat (table_of K) τ K.statement c E))

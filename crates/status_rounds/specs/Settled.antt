@@ -12,7 +12,8 @@ use Rattle.status_table.specs.WholeProgram.{program_flat_step}
 use Rattle.status_rounds.specs.declared.settle.Settled.{Settled}
 
 pub record IsSettled (K : Kernel) (c : Control) (os : List Outer) (s : Settled) : Type 0 where
-  pub env : env_of s.cells.signals.items ≡ solved (table_of K) os (program_must_can (table_of K) K.statement c) blank
+  pub env : env_of s.cells.signals.items ≡ solved (table_of K) os (program_must_can (table_of K) K.statement
+      c) blank
   pub step : program_flat_step (table_of K) (cells_in s.table) K.statement c (env_of s.cells.signals.items) ≡
       program_step (table_of K) K.statement c (env_of s.cells.signals.items)
   pub args : s.cells.args.items ≡ []

@@ -3,6 +3,7 @@
 ghost use Rattle.std.specs.Prelude.{◌≡◌, ◌≤◌, IfOk, length, map, replicate};
 ghost use Rattle.hh_term.specs.ProgramView.{kernel_of};
 ghost use Rattle.hh_term.specs.Sizes.{height_of};
+ghost use Rattle.hh_term.specs.declared.limits.TheConstants.{HEIGHT_LIMIT};
 ghost use Rattle.hh_term.specs.Views.{statement_of};
 ghost use Rattle.host_expr.specs.Environment.{env_of, unsolved};
 ghost use Rattle.status_rounds.specs.Before.{cell_after};
@@ -19,7 +20,7 @@ use std::alloc::Global;
 
 /// The greatest number of loops round one node.
 pub fn loops_round(term: &Term) -> usize
-    requires { height_of (statement_of term.now) ≤ 1024 }
+    requires { height_of (statement_of term.now) ≤ HEIGHT_LIMIT }
     ensures { result ≡ loops_round (statement_of term.now) }
 {
     match &term.node {
@@ -88,7 +89,8 @@ fn row(alloc: Global, places: usize) -> Result<Vec<Known>, NoMemory>
 
 /// A table of this many levels, with this many places at each, in which nothing is known.
 pub fn table(alloc: Global, levels: usize, places: usize) -> Result<Statuses, NoMemory>
-    ensures { IfOk result (λ t. map (λ r. r.items) t.rows.items ≡ replicate levels (replicate places nothing)) }
+    ensures { IfOk result (λ t. map (λ r. r.items) t.rows.items ≡ replicate levels
+        (replicate places nothing)) }
 {
     let mut rows = Vec::with_capacity(alloc, levels)?;
     for level in 0..levels {

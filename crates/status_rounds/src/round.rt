@@ -8,8 +8,8 @@ ghost use Rattle.hh_term.specs.Views.{control_in};
 ghost use Rattle.status_table.specs.TableView.{cells_in};
 ghost use Rattle.status_table.specs.Walking.{AllPut, Fits, Tallied};
 ghost use Rattle.status_rounds.specs.Given.{given_all};
-ghost use Rattle.status_rounds.specs.Rounds.{Concluded, Conclusions, HasPlace, PutsOne, Ready, Seen, Taken, Went};
-ghost use Rattle.status_rounds.specs.Rounds.{shape_of};
+ghost use Rattle.status_rounds.specs.Rounds.{Concluded, Conclusions, HasPlace, PutsOne, Ready, Seen, Taken};
+ghost use Rattle.status_rounds.specs.Rounds.{Went, shape_of};
 
 use hh_base::value::{NoMemory, Value};
 use hh_term::mark::{Control, Marked};
@@ -29,8 +29,8 @@ fn give(
     inputs: &[(u32, Value)],
     tallies: &mut Vec<Tally>,
 ) -> Result<(), NoMemory>
-    ensures { OnOk result (Tallied (table_of (kernel_of program.now)) (gives (given_all inputs.now) 0 Executed)
-        tallies.old.items tallies.new.items) }
+    ensures { OnOk result (Tallied (table_of (kernel_of program.now))
+        (gives (given_all inputs.now) 0 Executed) tallies.old.items tallies.new.items) }
 {
     for input in inputs {
         let cell = Cell::Known(input.1.copy(alloc)?);
@@ -94,7 +94,8 @@ fn conclude(
 ) -> Result<bool, NoMemory>
     requires cell { signal < length pass.old.cells.signals.items }
     requires tally { signal < length pass.old.tallies.items }
-    ensures { IfOk result (λ changed. Concluded (table_of (kernel_of program.now)) signal changed pass.old pass.new) }
+    ensures { IfOk result (λ changed. Concluded (table_of (kernel_of program.now)) signal changed pass.old
+        pass.new) }
 {
     let tally = mem::replace(&mut pass.tallies[signal as usize], Tally::new());
     let cell = &mut pass.cells.signals[signal as usize];

@@ -5,7 +5,8 @@ use Rattle.hh_base.specs.declared.value.Value.TheVariants as value
 use Rattle.hh_term.specs.MustCan.{table_of}
 use Rattle.hh_term.specs.ProgramView.{kernel_of}
 use Rattle.status_table.proofs.Reading.{read_here}
-use Rattle.status_rounds.proofs.Concluding.{not_true, not_false, known_cell, cell_known, solved_cell, some_tally}
+use Rattle.status_rounds.proofs.Concluding.{not_true, not_false, known_cell, cell_known, solved_cell}
+use Rattle.status_rounds.proofs.Concluding.{some_tally}
 use Rattle.status_rounds.proofs.round.conclude.Goals as goal
 
 pub returns : goal.returns

@@ -12,4 +12,5 @@ loop-signal-preserved c =
     one_conclusion (table_of (kernel_of c.args.program.now)) l.signal l.changed c.in_ok-changed.field-0
     (l.changed || c.in_ok-changed.field-0) c.args.pass.now l.pass c.conclude.new.pass
     (omega (arith, e, lt, c.requires.cells)) (omega (arith, e, lt, c.requires.tallies)) l.invariant
-    c.in_ok-changed.ensures (flag_by l.changed c.in_ok-changed.field-0 (l.changed || c.in_ok-changed.field-0) refl)
+    c.in_ok-changed.ensures (flag_by l.changed c.in_ok-changed.field-0 (l.changed || c.in_ok-changed.field-0)
+    refl)

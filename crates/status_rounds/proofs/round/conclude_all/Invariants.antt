@@ -4,4 +4,5 @@ use Rattle.status_rounds.specs.Rounds.{Conclusions}
 use Rattle.status_rounds.proofs.round.conclude_all.Given as goal
 
 abbrev pub invariant-loop-signal : goal.invariant-loop-signal
-invariant-loop-signal l = Conclusions (table_of (kernel_of l.program)) l.signal l.changed l.initial.pass l.pass
+invariant-loop-signal l = Conclusions (table_of (kernel_of l.program)) l.signal l.changed l.initial.pass
+    l.pass

@@ -30,7 +30,8 @@ pub put_raises-requires : goal.put_raises-requires
 put_raises-requires c =
     let b0 = c.args.pass.now in
     let b1 : Pass = record { cells = b0.cells; tallies = c.give.new.tallies; raised = b0.raised } in
-    raises_in (kernel_of c.args.program.now) (control_in c.args.marked.now) c.args.inputs.now c.args.table.now b0
+    raises_in (kernel_of c.args.program.now) (control_in c.args.marked.now) c.args.inputs.now c.args.table.now
+    b0
     b1 c.visit.new.pass c.conclude_all.new.pass c.args.program.now.rules c.requires refl refl
     c.in_ok-give.ensures c.in_ok-visit.ensures c.in_ok-changed.ensures.raised
 
@@ -41,9 +42,11 @@ returns-clause-ready c =
     let b3 = c.conclude_all.new.pass in
     let r = c.is_empty-raises.result in
     let len : length b3.raised.items ≡ vec_len b3.raised = omega (arith, b3.raised.ok) in
-    round_ready (kernel_of c.args.program.now) (control_in c.args.marked.now) c.args.inputs.now c.args.table.now b0
+    round_ready (kernel_of c.args.program.now) (control_in c.args.marked.now) c.args.inputs.now
+    c.args.table.now b0
     b1 c.visit.new.pass b3 c.args.program.now.rules c.requires refl refl c.in_ok-give.ensures
-    c.in_ok-visit.ensures c.in_ok-changed.ensures.raised c.put_raises.new.table c.in_ok-changed.changed (not r)
+    c.in_ok-visit.ensures c.in_ok-changed.ensures.raised c.put_raises.new.table c.in_ok-changed.changed
+    (not r)
     c.in_ok-changed.ensures c.put_raises.ensures.taken
     (raises_none b3.raised.items (vec_len b3.raised) r len c.is_empty-raises.ensures)
     (raises_some b3.raised.items (vec_len b3.raised) r len c.is_empty-raises.ensures)
@@ -57,9 +60,11 @@ returns-clause-went c =
     let b3 = c.conclude_all.new.pass in
     let r = c.is_empty-raises.result in
     let len : length b3.raised.items ≡ vec_len b3.raised = omega (arith, b3.raised.ok) in
-    round_went (kernel_of c.args.program.now) (control_in c.args.marked.now) c.args.inputs.now c.args.table.now b0
+    round_went (kernel_of c.args.program.now) (control_in c.args.marked.now) c.args.inputs.now
+    c.args.table.now b0
     b1 c.visit.new.pass b3 c.args.program.now.rules c.requires refl refl c.in_ok-give.ensures
-    c.in_ok-visit.ensures c.in_ok-changed.ensures.raised c.put_raises.new.table c.in_ok-changed.changed (not r)
+    c.in_ok-visit.ensures c.in_ok-changed.ensures.raised c.put_raises.new.table c.in_ok-changed.changed
+    (not r)
     c.in_ok-changed.ensures c.put_raises.ensures.taken
     (raises_none b3.raised.items (vec_len b3.raised) r len c.is_empty-raises.ensures)
     (raises_some b3.raised.items (vec_len b3.raised) r len c.is_empty-raises.ensures)

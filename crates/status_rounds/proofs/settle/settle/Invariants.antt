@@ -16,7 +16,8 @@ abbrev pub invariant-rounds : goal.invariant-rounds
 invariant-rounds l = record {
   ready : Ready (kernel_of l.program) l.table l.pass;
   sound : Sound (table_of (kernel_of l.program)) (outers_from 0 l.inputs (lasts_of l.before.cells.items))
-      (kernel_of l.program).statement (control_in l.marked) (env_of l.pass.cells.signals.items) (cells_in l.table);
+      (kernel_of l.program).statement (control_in l.marked) (env_of l.pass.cells.signals.items)
+      (cells_in l.table);
 }
 
 abbrev pub decreases-rounds : goal.decreases-rounds
