@@ -147,8 +147,14 @@ raised_none τ S P b h = record { news = []; is = sym (append-nil b); put = tt; 
 
 pub raised_weaker : (τ : Cells) (S S' : Type 0) (P Q : PutAt) (b0 b1 : List Raise) → (S → S') →
     ((s n : ℕ) (v : Tri × Cell) → P s n v → Q s n v) → Raised τ S P b0 b1 → Raised τ S' Q b0 b1
-raised_weaker τ S S' P Q b0 b1 f g h = record
-    { news = h.news; is = h.is; put = all_weaker P Q g h.news h.put; changes = h.changes; still = λ e. f (h.still e) }
+raised_weaker τ S S' P Q b0 b1 f g h = record {
+  news = h.news;
+  is = h.is;
+  put = all_weaker P Q g h.news h.put;
+  changes = h.changes;
+  still = λ e. f
+      (h.still e);
+}
 
 pub raised_both : (τ : Cells) (S S' : Type 0) (P Q R : PutAt) (b0 b1 b2 : List Raise) →
     ((s n : ℕ) (v : Tri × Cell) → P s n v → R s n v) → ((s n : ℕ) (v : Tri × Cell) → Q s n v → R s n v) →
@@ -161,7 +167,8 @@ raised_both τ S S' P Q R b0 b1 b2 f g h k = record {
   still = λ e. (h.still (left_none h.news k.news e), k.still (right_none h.news k.news e));
 }
 
-pub met_weaker : (T : Table) (τ : Cells) (a : MustCan) (S S' : Type 0) (P Q : PutAt) (end : Option ℕ) (K : List Bool)
+pub met_weaker : (T : Table) (τ : Cells) (a : MustCan) (S S' : Type 0) (P Q : PutAt) (end : Option ℕ)
+    (K : List Bool)
     (b0 b1 : Pass) → (S → S') → ((s n : ℕ) (v : Tri × Cell) → P s n v → Q s n v) → Met T τ a S P end K b0 b1 →
     Met T τ a S' Q end K b0 b1
 met_weaker T τ a S S' P Q end K b0 b1 f g h =
@@ -177,7 +184,8 @@ met_weaker T τ a S S' P Q end K b0 b1 f g h =
 
 -- ---- statements without parts
 
-pub met_leaf : (T : Table) (τ : Cells) (bag : Bag) (k : ℕ) (P : PutAt) (sure : Bool) (end : Option ℕ) (K : List Bool)
+pub met_leaf : (T : Table) (τ : Cells) (bag : Bag) (k : ℕ) (P : PutAt) (sure : Bool) (end : Option ℕ)
+    (K : List Bool)
     (b0 b1 : Pass) → Counted T (gives bag k (index_of sure)) b0 b1 → end ≡ code_of k sure → Agrees K (only k)
     → Met T τ (gives bag k (index_of sure)) (Unit {0}) P end K b0 b1
 met_leaf T τ bag k P true end K b0 b1 h e g = record {
@@ -187,7 +195,8 @@ met_leaf T τ bag k P true end K b0 b1 h e g = record {
   args = h.args;
   tallies = h.tallies;
   raised = subst
-      (λ z. Raised τ (Unit {0}) P b0.raised.items z) (sym h.raised) (raised_none τ (Unit {0}) P b0.raised.items tt);
+      (λ z. Raised τ (Unit {0}) P b0.raised.items z) (sym h.raised) (raised_none τ (Unit {0}) P
+      b0.raised.items tt);
 }
 met_leaf T τ bag k P false end K b0 b1 h e g = record {
   code = e;
@@ -196,7 +205,8 @@ met_leaf T τ bag k P false end K b0 b1 h e g = record {
   args = h.args;
   tallies = h.tallies;
   raised = subst
-      (λ z. Raised τ (Unit {0}) P b0.raised.items z) (sym h.raised) (raised_none τ (Unit {0}) P b0.raised.items tt);
+      (λ z. Raised τ (Unit {0}) P b0.raised.items z) (sym h.raised) (raised_none τ (Unit {0}) P
+      b0.raised.items tt);
 }
 
 pub counted_none : (T : Table) (k : ℕ) (i : Index) (b : Pass) → Counted T (gives [] k i) b b
@@ -232,9 +242,11 @@ turn_cong : (K K' L L' : CodeSet) → ((c : ℕ) → K c ≡ K' c) → ((c : ℕ
 turn_cong K K' L L' h g c = or_cong (without_end K c) (without_end K' c) (K 0 && L c) (K' 0 && L' c)
     (without_cong K K' h c) (and_cong (K 0) (K' 0) (L c) (L' c) (h 0) (g c))
 
-pub met_sequence : (T : Table) (τ : Cells) (a : MustCan) (f : Index → MustCan) (SA : Type 0) (SB : Index → Type 0)
+pub met_sequence : (T : Table) (τ : Cells) (a : MustCan) (f : Index → MustCan) (SA : Type 0) (SB : Index →
+    Type 0)
     (PA : PutAt) (PB : Index → PutAt) (c1 c2 : Option ℕ) (K1 K2 K : List Bool) (b0 b1 b2 : Pass) →
-    Met T τ a SA PA c1 K1 b0 b1 → codes_in K1 0 ≡ true → Met T τ (f (is_end c1)) (SB (is_end c1)) (PB (is_end c1))
+    Met T τ a SA PA c1 K1 b0 b1 → codes_in K1 0 ≡ true → Met T τ (f (is_end c1)) (SB (is_end c1))
+    (PB (is_end c1))
     c2 K2 b1 b2 → Agrees K (in_turn (codes_in K1) (codes_in K2)) →
     Met T τ (sequence a f) (SA × Pick (a.codes 0) (SB (is_end a.code)) (Unit {0}))
     (λ s n v. PA s n v ⊎ Pick (a.codes 0) (PB (is_end a.code) s n v) ⊥) (go_on c1 c2) K b0 b2
@@ -254,7 +266,8 @@ met_sequence T τ a f SA SB PA PB c1 c2 K1 K2 K b0 b1 b2 h e g0 hK =
           g.tallies
           (λ s. sym (cells-append s a.must b.must))
           (λ s. sym (ap (λ z. cells_of s (a.can ++ cond z b.can [])) ends ∙ cells-append s a.can b.can));
-      raised = raised_weaker τ (SA × SB (is_end a.code)) (SA × Pick (a.codes 0) (SB (is_end a.code)) (Unit {0}))
+      raised = raised_weaker τ (SA × SB (is_end a.code)) (SA × Pick (a.codes 0) (SB (is_end a.code))
+          (Unit {0}))
           (λ s n v. PA s n v ⊎ Pick (a.codes 0) (PB (is_end a.code) s n v) ⊥)
           (λ s n v. PA s n v ⊎ Pick (a.codes 0) (PB (is_end a.code) s n v) ⊥) b0.raised.items b2.raised.items
           (λ x. (x.0, pick (SB (is_end a.code)) (Unit {0}) x.1)) (λ s n v x. x)
@@ -308,7 +321,8 @@ met_stop T τ a f SA SB PA PB c1 K1 b0 b1 w q h e =
 
 pub met_parallel : (T : Table) (τ : Cells) (a b : MustCan) (SA SB : Type 0) (PA PB : PutAt) (c1 c2 : Option ℕ)
     (K1 K2 K : List Bool) (b0 b1 b2 : Pass) →
-    Met T τ a SA PA c1 K1 b0 b1 → Met T τ b SB PB c2 K2 b1 b2 → Agrees K (greater_of (codes_in K1) (codes_in K2))
+    Met T τ a SA PA c1 K1 b0 b1 → Met T τ b SB PB c2 K2 b1 b2 → Agrees K (greater_of (codes_in K1)
+    (codes_in K2))
     →
     Met T τ (parallel a b) (SA × SB) (λ s n v. PA s n v ⊎ PB s n v) (greater c1 c2) K b0 b2
 met_parallel T τ a b SA SB PA PB c1 c2 K1 K2 K b0 b1 b2 h g hK =
@@ -347,9 +361,11 @@ lowered_cong K L h zero = or_cong (K 0) (L 0) (K 2) (L 2) (h 0) (h 2)
 lowered_cong K L h (suc zero) = h 1
 lowered_cong K L h (suc (suc c)) = h (suc (suc (suc c)))
 
-pub met_trapped : (T : Table) (τ : Cells) (a : MustCan) (S : Type 0) (P : PutAt) (c1 : Option ℕ) (K1 K : List Bool)
+pub met_trapped : (T : Table) (τ : Cells) (a : MustCan) (S : Type 0) (P : PutAt) (c1 : Option ℕ)
+    (K1 K : List Bool)
     (b0 b1 : Pass) →
-    Met T τ a S P c1 K1 b0 b1 → Agrees K (lowered (codes_in K1)) → Met T τ (trapped a) S P (lower_code c1) K b0 b1
+    Met T τ a S P c1 K1 b0 b1 → Agrees K (lowered (codes_in K1)) → Met T τ (trapped a) S P (lower_code c1) K
+    b0 b1
 met_trapped T τ a S P c1 K1 K b0 b1 h hK = record {
   code = ap lower_code h.code;
   codes = λ k. hK k ∙ lowered_cong (codes_in K1) a.codes h.codes k;
@@ -406,7 +422,8 @@ module _ (T : Table) (τ : Cells) (c1 : Option ℕ) (K1 : List Bool) (b0 b1 : Pa
   chosen_open (cell.Faulted o k) i p q SP SQ PP PQ e h = cc
 
   pub held_holds : (x : Cell) (i : Index) (p : Index → MustCan) (SP : Index → Type 0) (PP : Index → PutAt) →
-      tested x ≡ verdict.Holds → Met T τ (gives [] 1 i) (Unit {0}) (λ s n v. ⊥) c1 K1 b0 b1 → Met T τ (held x i p)
+      tested x ≡ verdict.Holds → Met T τ (gives [] 1 i) (Unit {0}) (λ s n v. ⊥) c1 K1 b0 b1 → Met T τ
+      (held x i p)
       (HeldAt x i SP) (λ s n v. PutsHeld x i (λ j. PP j s n v)) c1 K1 b0 b1
   held_holds cell.Unknown i p SP PP e h = cc
   held_holds (cell.Known u) i p SP PP e h =
@@ -416,7 +433,8 @@ module _ (T : Table) (τ : Cells) (c1 : Option ℕ) (K1 : List Bool) (b0 b1 : Pa
   held_holds (cell.Faulted o k) i p SP PP e h = cc
 
   pub held_fails : (x : Cell) (i : Index) (p : Index → MustCan) (SP : Index → Type 0) (PP : Index → PutAt) →
-      tested x ≡ verdict.Fails → Met T τ (p i) (SP i) (PP i) c1 K1 b0 b1 → Met T τ (held x i p) (HeldAt x i SP)
+      tested x ≡ verdict.Fails → Met T τ (p i) (SP i) (PP i) c1 K1 b0 b1 → Met T τ (held x i p)
+      (HeldAt x i SP)
       (λ s n v. PutsHeld x i (λ j. PP j s n v)) c1 K1 b0 b1
   held_fails cell.Unknown i p SP PP e h = cc
   held_fails (cell.Known u) i p SP PP e h =
@@ -447,10 +465,12 @@ module _ (T : Table) (τ : Cells) (c1 : Option ℕ) (K1 : List Bool) (b0 b1 : Pa
 some_same : {A : Type 0} (x y : A) → Some x ≡ Some y → x ≡ y
 some_same x y e = cc
 
-pub met_hide : (T : Table) (τ : Cells) (s l : ℕ) (c : SigCell) (a : MustCan) (S : Type 0) (P : PutAt) (end : Option ℕ)
+pub met_hide : (T : Table) (τ : Cells) (s l : ℕ) (c : SigCell) (a : MustCan) (S : Type 0) (P : PutAt)
+    (end : Option ℕ)
     (K : List Bool) (outer : Outer) (b0 b1 b2 b3 : Pass) →
     s < length b0.cells.signals.items → s < length b0.tallies.items →
-    (c.status, c.value) ≡ τ s l → Entered s c outer b0 b1 → Met T τ a S P end K b1 b2 → Left (T.kind s) s l outer b2 b3 →
+    (c.status, c.value) ≡ τ s l → Entered s c outer b0 b1 → Met T τ a S P end K b1 b2 → Left (T.kind s) s l
+    outer b2 b3 →
     Met T τ (hide s a) ((raised T s c a ≡ c) × S)
     (λ r n v. ((r ≡ s) × (n ≡ l) × (v ≡ ((raised T s c a).status, (raised T s c a).value))) ⊎ P r n v) end
     K b0 b3
@@ -540,7 +560,8 @@ met_hide T τ s l c a S P end K outer b0 b1 b2 b3 ls lt tab en h le =
         { status = c.status; value = z; pre = c.pre; preval = c.preval } in y) va in
         subst (λ z. Raised τ ((R ≡ c) × S) Q z b3.raised.items) en.raised
         (subst (λ z. Raised τ ((R ≡ c) × S) Q b1.raised.items z) (sym x.0)
-        (raised_weaker τ S ((R ≡ c) × S) P Q b1.raised.items b2.raised.items (λ z. (same, z)) (λ r n v z. inr z)
+        (raised_weaker τ S ((R ≡ c) × S) P Q b1.raised.items b2.raised.items (λ z. (same, z)) (λ r n v z. inr
+        z)
         h.raised))
     at_end (inr x) =
         let r = x.0 in
@@ -558,7 +579,8 @@ met_hide T τ s l c a S P end K outer b0 b1 b2 b3 ls lt tab en h le =
               (all_weaker P Q (λ r n v z. inr z) h.raised.news h.raised.put) (inl (x.2, x.3, pair), tt);
           changes = all_both (λ s n v. v ≢ τ s n) h.raised.news (r ∷ []) h.raised.changes (
             λ e.
-                let same : (r.known.status, r.known.value) ≡ (c.status, c.value) = e ∙ ap (τ r.signal) x.3 ∙ ap
+                let same : (r.known.status, r.known.value) ≡ (c.status, c.value) = e ∙ ap (τ r.signal) x.3 ∙
+                ap
                 (λ z. τ z l) x.2 ∙ sym tab in
                 x.6 (ap (λ z. z.0) same ∙ ap (λ z. z.status) (sym here))
                 (ap (λ z. z.1) same ∙ ap (λ z. z.value) (sym here)),

@@ -20,7 +20,8 @@ module _ (T : Table) (τ : Cells) (d l : ℕ) (sure : Bool) (c : Option ℕ) (K 
     (e : c ≡ code_of 0 sure) (g : Agrees K (only 0)) where
   pub async_unmet : (z : ℕ) (m : Mark) → ((x : AsyncMark) → m ≡ mark.Async x → ⊥) → Visited T τ (Async z) d l
       (Resume (selection_of m)) sure c K b b
-  async_unmet z mark.Pause h0 = met_leaf T τ [] 0 (λ s n v. ⊥) sure c K b b (counted_none T 0 (index_of sure) b)
+  async_unmet z mark.Pause h0 = met_leaf T τ [] 0 (λ s n v. ⊥) sure c K b b (counted_none T 0 (index_of sure)
+      b)
       e g
   async_unmet z (mark.Async a) h0 = absurd (h0 a refl)
   async_unmet z (mark.First' x n) h0 = met_leaf T τ [] 0 (λ s n v. ⊥) sure c K b b
@@ -110,7 +111,8 @@ module _ (T : Table) (τ : Cells) (d l : ℕ) (sure : Bool) (c : Option ℕ) (K 
 
   pub loop_unmet : (p : Statement) (m : Mark) → ((x : Box Mark Global) → m ≡ mark.Inside x → ⊥) → Visited T τ
       (Loop p) d l (Resume (selection_of m)) sure c K b b
-  loop_unmet p mark.Pause h0 = met_leaf T τ [] 0 (λ s n v. ⊥) sure c K b b (counted_none T 0 (index_of sure) b)
+  loop_unmet p mark.Pause h0 = met_leaf T τ [] 0 (λ s n v. ⊥) sure c K b b (counted_none T 0 (index_of sure)
+      b)
       e g
   loop_unmet p (mark.Async a) h0 = met_leaf T τ [] 0 (λ s n v. ⊥) sure c K b b
       (counted_none T 0 (index_of sure) b) e g
@@ -126,7 +128,8 @@ module _ (T : Table) (τ : Cells) (d l : ℕ) (sure : Bool) (c : Option ℕ) (K 
 
   pub trap_unmet : (p : Statement) (m : Mark) → ((x : Box Mark Global) → m ≡ mark.Inside x → ⊥) → Visited T τ
       (Trap p) d l (Resume (selection_of m)) sure c K b b
-  trap_unmet p mark.Pause h0 = met_leaf T τ [] 0 (λ s n v. ⊥) sure c K b b (counted_none T 0 (index_of sure) b)
+  trap_unmet p mark.Pause h0 = met_leaf T τ [] 0 (λ s n v. ⊥) sure c K b b (counted_none T 0 (index_of sure)
+      b)
       e g
   trap_unmet p (mark.Async a) h0 = met_leaf T τ [] 0 (λ s n v. ⊥) sure c K b b
       (counted_none T 0 (index_of sure) b) e g
