@@ -1,1 +1,2 @@
 pub mod ResolvedParts
+pub mod SourceWalks
