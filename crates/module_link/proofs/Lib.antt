@@ -1,2 +1,3 @@
 pub mod ResolvedParts
 pub mod SourceWalks
+pub mod Expressions
