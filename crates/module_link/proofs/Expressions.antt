@@ -26,16 +26,10 @@ use Rattle.module_tree.specs.Parts.{read_step, parameter_step, signals_read, par
 use Rattle.module_tree.specs.SourceExpressions.{size_step, size_of}
 use Rattle.link_faults.specs.Named.{Name}
 use Rattle.link_faults.specs.SourceKinds.{Kinds, judged_name, judged_node, judged_source}
+use Rattle.module_link.proofs.Lists.{nothing_first, append_empty, all_split}
 use Rattle.module_link.specs.Resolved.{resolved_name, resolved_node, resolved_expr}
 
 -- ---- where nothing is at fault, something has a kind
-
-nothing_first : {A : Type 0} (x : A) (xs : List A) → x ∷ xs ≡ [] → ⊥
-nothing_first x xs e = cc
-
-append_empty : {A : Type 0} (xs ys : List A) → xs ++ ys ≡ [] → (xs ≡ []) × (ys ≡ [])
-append_empty [] ys e = (refl, e)
-append_empty (x ∷ xs) ys e = absurd (nothing_first x (xs ++ ys) e)
 
 abbrev pub HasKind : Judged → Type 0
 HasKind a = a.misfits ≡ [] → is_some a.kind ≡ true
@@ -68,11 +62,6 @@ pub record Means (ks : Kinds) (K : List Kind) (places : Name → ℕ) (n : NameA
 
 abbrev pub AllMean : Kinds → List Kind → (Name → ℕ) → List (NameAt Name) → Type 0
 AllMean ks K places = AllByRecursion (Means ks K places)
-
-all_split : {A : Type 0} (P : A → Type 0) (xs ys : List A) → AllByRecursion P (xs ++ ys)
-    → AllByRecursion P xs × AllByRecursion P ys
-all_split P [] ys h = (tt, h)
-all_split P (x ∷ xs) ys h = let q = all_split P xs ys h.1 in ((h.0, q.0), q.1)
 
 -- what is to be shown of an expression or a node: of its kind and misfits
 pub record Kinded (ks : Judged) (k : Option Kind) : Type 0 where

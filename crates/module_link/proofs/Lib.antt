@@ -1,3 +1,6 @@
+pub mod Lists
 pub mod ResolvedParts
 pub mod SourceWalks
 pub mod Expressions
+pub mod ScopePlaces
+pub mod Faultless
