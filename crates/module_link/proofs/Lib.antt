@@ -4,3 +4,5 @@ pub mod SourceWalks
 pub mod Expressions
 pub mod ScopePlaces
 pub mod Faultless
+pub mod SameDeclarations
+pub mod Meanings
