@@ -6,3 +6,5 @@ pub mod ScopePlaces
 pub mod Faultless
 pub mod SameDeclarations
 pub mod Meanings
+pub mod Distinct
+pub mod Bound
