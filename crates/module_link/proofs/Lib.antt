@@ -8,3 +8,4 @@ pub mod SameDeclarations
 pub mod Meanings
 pub mod Distinct
 pub mod Bound
+pub mod PartExpressions
