@@ -71,7 +71,7 @@ record WrittenFits (interface : List InterfaceNode) (c : InScope) (b : Binding N
   kinds : differ (interface_named interface b.left.name) (signal_named c b.right.name) ≡ false
   emits : (is_emitted (interface_named interface b.left.name) && is_in (signal_named c b.right.name)) ≡ false
 
-abbrev written_for : List (Binding Name) → Signal → Option (Binding Name)
+abbrev pub written_for : List (Binding Name) → Signal → Option (Binding Name)
 written_for written s = find (λ (b : Binding Name). bytes_eq b.left.name s.signal.name) written
 
 abbrev lefts : List (Binding Name) → List Name

@@ -9,3 +9,5 @@ pub mod Meanings
 pub mod Distinct
 pub mod Bound
 pub mod PartExpressions
+pub mod RunParts
+pub mod PartFields
