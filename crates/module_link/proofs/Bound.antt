@@ -39,7 +39,7 @@ record Fits (c : InScope) (s : Signal) (n : Name) : Type 0 where
   kinds : differ (Some s) (signal_named c n) ≡ false
   emits : (not (is_input s.dir) && is_in (signal_named c n)) ≡ false
 
-true_from_not : (b : Bool) → not b ≡ false → b ≡ true
+pub true_from_not : (b : Bool) → not b ≡ false → b ≡ true
 true_from_not true e = refl
 true_from_not false e = sym e
 

@@ -1,8 +1,8 @@
 -- A run of a text without faults, resolved: the module that is run, and its bindings.
-use Rattle.std.proofs.Common.{◌≡◌, ℕ, zero, suc, ◌+◌, Bool, true, false, List, [], ◌∷◌, ◌++◌, map, Option, Some}
-use Rattle.std.proofs.Common.{None, option_map, refl, sym, ap, subst, ◌∙◌, eq-eqb, arith}
-use Rattle.std.specs.Prelude.{◌==◌, ◌&&◌, is_some, slice_get}
-use Rattle.std.specs.List.{AllByRecursion, flat_map, list_all}
+use Rattle.std.proofs.Common.{◌≡◌, ℕ, ◌+◌, Bool, true, List, [], ◌∷◌, map, Some}
+use Rattle.std.proofs.Common.{None, option_map, refl, sym, ap, ◌∙◌, eq-eqb, arith}
+use Rattle.std.specs.Prelude.{◌==◌, is_some, slice_get}
+use Rattle.std.specs.List.{AllByRecursion, flat_map}
 use Rattle.std.proofs.lemmas.Bool.{and_from}
 use Rattle.hh_base.specs.declared.value.Pos.{Pos}
 use Rattle.module_tree.specs.declared.source.NameAt.{NameAt}
@@ -11,7 +11,7 @@ use Rattle.module_tree.specs.declared.source.Binding.{Binding}
 use Rattle.module_tree.specs.declared.source.InterfaceNode.{InterfaceNode}
 use Rattle.module_tree.specs.declared.source.ModuleNode.{ModuleNode}
 use Rattle.module_tree.specs.Scopes.{Signal, InScope, interface_from, interface_signals}
-use Rattle.module_tree.specs.Parts.{Call, Placed, signals_named, signals_written, expressions_of, signals_read}
+use Rattle.module_tree.specs.Parts.{Call, signals_written, expressions_of, signals_read}
 use Rattle.module_tree.specs.Callables.{modules_of, interfaces_of}
 use Rattle.module_tree.specs.LinkedFacts.{each_binding, places_from}
 use Rattle.link_faults.specs.Named.{Name, module_named, place_from}
@@ -21,10 +21,8 @@ use Rattle.module_link.specs.Resolved.{or_first, resolved_binding, resolved_bind
 use Rattle.module_link.proofs.Lists.{append_empty, all_found, all_split, all_from_map, get_of_map}
 use Rattle.module_link.proofs.Distinct.{place_found, AtPlace}
 use Rattle.module_link.proofs.Meanings.{all_known, is_there}
-use Rattle.module_link.proofs.ScopePlaces.{IsPlaced, signals_of}
 use Rattle.module_link.proofs.Faultless.{Fine, FineText, names_of_interface}
 use Rattle.module_link.proofs.Bound.{Bound, all_bound, written_for}
-use Rattle.module_link.proofs.PartExpressions.{AllKnown}
 
 -- what stands at the place of a name, of what is found by it
 pub stands_at : {A : Type 0} (f : A → Name) (xs : List A) (name : Name) (x : A)
