@@ -11,3 +11,4 @@ pub mod Bound
 pub mod PartExpressions
 pub mod RunParts
 pub mod PartFields
+pub mod ResolvedLinked
