@@ -1,4 +1,5 @@
 pub mod Faults
+pub mod Earliest
 pub mod Named
 pub mod SourceKinds
 pub mod Rows
