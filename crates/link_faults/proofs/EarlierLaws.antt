@@ -75,6 +75,9 @@ not_below m n le = grind arith
 at_most : (m n : ℕ) → nat_lt m n ≡ false → n ≤ m
 at_most m n e = grind arith
 
+below : (m n : ℕ) → nat_lt m n ≡ true → m < n
+below m n e = grind arith
+
 pick_left : (a b : LinkFault) → key a ≤ key b → pick a b ≡ a
 pick_left a b le = ap (λ t. cond t b a) (by_key b a ∙ not_below (key b) (key a) le)
 
@@ -86,6 +89,24 @@ pick_right a b le = by (is_before b a) refl
     by false is =
         let above = at_most (key b) (key a) (sym (by_key b a) ∙ is) in
         same_key a b (omega arith)
+
+pub before_itself : (a : LinkFault) → is_before a a ≡ false
+before_itself a = by_key a a ∙ not_below (key a) (key a) (omega arith)
+
+-- what is not before the second of two is not before the first, where that is the earlier one
+pub not_before_first : (g a b : LinkFault) → is_before b a ≡ false → is_before g b ≡ false
+    → is_before g a ≡ false
+not_before_first g a b ba gb =
+    let ab = at_most (key b) (key a) (sym (by_key b a) ∙ ba) in
+    let bg = at_most (key g) (key b) (sym (by_key g b) ∙ gb) in
+    by_key g a ∙ not_below (key g) (key a) (omega arith)
+
+pub not_before_second : (g a b : LinkFault) → is_before b a ≡ true → is_before g a ≡ false
+    → is_before g b ≡ false
+not_before_second g a b ba ga =
+    let less = below (key b) (key a) (sym (by_key b a) ∙ ba) in
+    let ag = at_most (key g) (key a) (sym (by_key g a) ∙ ga) in
+    by_key g b ∙ not_below (key g) (key b) (omega arith)
 
 -- the one with the least number, the first of two with one number
 pick_turned : (a b : LinkFault) → pick a b ≡ pick b a

@@ -1,2 +1,3 @@
 pub mod ScopeLemmas
 pub mod EarlierLaws
+pub mod VerdictLaw
