@@ -1,8 +1,9 @@
 -- Laws of the order of faults: the first of several is the same however they are grouped and ordered.
 use Rattle.std.proofs.Common.{◌≡◌, ℕ, ◌+◌, ◌*◌, ◌<◌, ◌≤◌, ◌==◌, ◌&&◌, ◌||◌, nat_lt, Bool, true, false, cond}
-use Rattle.std.proofs.Common.{Some, None, Option, List, [], ◌∷◌, ◌++◌, refl, sym, ◌∙◌, ap, arith, ◌-◌, ◌⊎◌, inl, inr}
+use Rattle.std.proofs.Common.{Some, None, Option, List, [], ◌∷◌, ◌++◌, refl, sym, ◌∙◌, ap, arith, ◌-◌, ◌⊎◌, inl, inr, length, take, get_or}
 use Rattle.std.specs.List.{flat_map}
 use Rattle.std.proofs.lemmas.Bool.{cases_lt}
+use Rattle.std.proofs.lemmas.List.{take_more}
 use Rattle.hh_base.specs.declared.value.Pos.{Pos}
 use Rattle.link_faults.specs.declared.fault.LinkKind.{LinkKind}
 use Rattle.link_faults.specs.declared.fault.LinkKind.TheVariants as fault
@@ -177,3 +178,10 @@ pub first_at_each : {A : Type 0} (k : LinkKind) (f : A → List Pos) (xs : List 
 first_at_each k f [] = refl
 first_at_each k f (x ∷ xs) = first_at_joined k (f x) (flat_map f xs)
     ∙ ap (earlier (first_at k (f x))) (first_at_each k f xs)
+
+-- one item more
+pub first_by_more : {A : Type 0} (f : A → Option LinkFault) (xs : List A) (i : ℕ) (d : A) → i < length xs
+    → first_by f (take (i + 1) xs) ≡ earlier (first_by f (take i xs)) (f (get_or xs i d))
+first_by_more f xs i d within = ap (first_by f) (take_more xs i d within)
+    ∙ first_by_joined f (take i xs) (get_or xs i d ∷ [])
+    ∙ ap (earlier (first_by f (take i xs))) (earlier_none (f (get_or xs i d)))

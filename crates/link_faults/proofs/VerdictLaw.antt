@@ -25,6 +25,7 @@ in_cons {A} x xs y h = by (Contains-append_cases (x ∷ []) xs y h)
     only : Contains {X = A} [] y ⊎ (x ≡ y) → (x ≡ y) ⊎ Contains xs y
     only (inl h) = absurd (none_in y h)
     only (inr e) = inl e
+
     by : Contains (x ∷ []) y ⊎ Contains xs y → (x ≡ y) ⊎ Contains xs y
     by (inl h) = only (Contains-push_cases [] x y h)
     by (inr h) = inr h
@@ -73,9 +74,11 @@ least_of_both P Q (Some a) (Some b) p q = by (is_before b a) refl
     of_first : is_before b a ≡ false → (g : LinkFault) → P g ⊎ Q g → is_before g a ≡ false
     of_first is g (inl h) = p.first g h
     of_first is g (inr h) = not_before_first g a b is (q.first g h)
+
     of_second : is_before b a ≡ true → (g : LinkFault) → P g ⊎ Q g → is_before g b ≡ false
     of_second is g (inl h) = not_before_second g a b is (p.first g h)
     of_second is g (inr h) = q.first g h
+
     by : (t : Bool) → is_before b a ≡ t → IsFirstOf (λ f. P f ⊎ Q f) (cond t b a)
     by true is = record { found = inr q.found; first = of_second is }
     by false is = record { found = inl p.found; first = of_first is }
@@ -103,10 +106,12 @@ least_of_kind k (p ∷ ps) = least_alike (λ f. (there k p ≡ f) ⊎ OfKind k p
     to : (f : LinkFault) → (there k p ≡ f) ⊎ OfKind k ps f → OfKind k (p ∷ ps) f
     to f (inl e) = (ap (λ g. g.kind) (sym e), is_first_one p ps f.pos (ap (λ g. g.pos) e))
     to f (inr h) = (h.0, is_later_one p ps f.pos h.1)
+
     by : (f : LinkFault) → f.kind ≡ k → (p ≡ f.pos) ⊎ Contains ps f.pos → (there k p ≡ f) ⊎ OfKind k ps f
     by f e (inl at) = inl (ap (λ q. record { pos = q; kind = k }) at
         ∙ ap (λ j. record { pos = f.pos; kind = j }) (sym e))
     by f e (inr h) = inr (e, h)
+
     from : (f : LinkFault) → OfKind k (p ∷ ps) f → (there k p ≡ f) ⊎ OfKind k ps f
     from f h = by f h.0 (in_cons p ps f.pos h.1)
 
@@ -126,13 +131,17 @@ least_of_kinds rows (k ∷ ks) = least_alike (λ f. OfKind k (rows k) f ⊎ OfKi
     (first_by (λ k. first_at k (rows k)) ks) (least_of_kind k (rows k)) (least_of_kinds rows ks))
   where
     to : (f : LinkFault) → OfKind k (rows k) f ⊎ OfKinds rows ks f → OfKinds rows (k ∷ ks) f
-    to f (inl h) = (is_first_one k ks f.kind (sym h.0),
-        subst (λ j. Contains (rows j) f.pos) (sym h.0) h.1)
+    to f (inl h) = (
+      is_first_one k ks f.kind (sym h.0),
+      subst (λ j. Contains (rows j) f.pos) (sym h.0) h.1,
+    )
     to f (inr h) = (is_later_one k ks f.kind h.0, h.1)
+
     by : (f : LinkFault) → Contains (rows f.kind) f.pos → (k ≡ f.kind) ⊎ Contains ks f.kind
         → OfKind k (rows k) f ⊎ OfKinds rows ks f
     by f h (inl e) = inl (sym e, subst (λ j. Contains (rows j) f.pos) (sym e) h)
     by f h (inr later) = inr (later, h)
+
     from : (f : LinkFault) → OfKinds rows (k ∷ ks) f → OfKind k (rows k) f ⊎ OfKinds rows ks f
     from f h = by f h.1 (in_cons k ks f.kind h.0)
 

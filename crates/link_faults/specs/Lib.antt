@@ -5,3 +5,5 @@ pub mod SourceKinds
 pub mod Rows
 pub mod FirstFault
 pub mod InnermostFirst
+pub mod Meanings
+pub mod Judgements

@@ -3,4 +3,6 @@
 #![tactic(auto)]
 
 pub mod fault;
+pub mod judge;
+pub mod names;
 pub mod scope;
