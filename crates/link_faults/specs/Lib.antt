@@ -7,3 +7,4 @@ pub mod FirstFault
 pub mod InnermostFirst
 pub mod Meanings
 pub mod Judgements
+pub mod PartFaults

@@ -5,4 +5,5 @@
 pub mod fault;
 pub mod judge;
 pub mod names;
+pub mod parts;
 pub mod scope;
