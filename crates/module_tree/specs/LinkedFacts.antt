@@ -29,6 +29,7 @@ use Rattle.module_tree.specs.declared.source.Part.TheVariants as top
 use Rattle.module_tree.specs.Scopes.{Signal, InScope, signal_at, trap_at}
 use Rattle.module_tree.specs.Parts.{StatementPart, Test, Times, Emission, Locals, Exit, Call, Start, Placed}
 use Rattle.module_tree.specs.Parts.{parts_of, expressions_of, signals_named, parameters_named}
+use Rattle.module_tree.specs.DeclaredAt.{NamesGoByPosition}
 use Rattle.module_tree.specs.Callables.{Signature, modules_of, signatures_of, interfaces_of}
 
 -- ---- what the parts are judged against: the interfaces of all modules, the signatures of all bodies and
@@ -270,3 +271,5 @@ pub record IsLinked (parts : List (Part ℕ)) : Type 0 where
   pub forms : list_all is_formed parts ≡ true
   -- no name is declared twice in one place
   pub names : all_names_differ parts ≡ true
+  -- declarations of one position have one name
+  pub names_by_position : NamesGoByPosition parts
