@@ -6,3 +6,4 @@ pub mod ScopePlaces
 pub mod Faultless
 pub mod SameDeclarations
 pub mod Meanings
+pub mod NamesByPosition
