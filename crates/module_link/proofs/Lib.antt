@@ -5,6 +5,7 @@ pub mod Expressions
 pub mod ScopePlaces
 pub mod Faultless
 pub mod SameDeclarations
+pub mod NamesByPosition
 pub mod Meanings
 pub mod Distinct
 pub mod Bound

@@ -15,6 +15,7 @@ use Rattle.module_tree.specs.declared.source.Part.TheVariants as top
 use Rattle.module_tree.specs.Parts.{signals_read, parameters_read}
 use Rattle.module_tree.specs.Callables.{Signature, modules_of, signatures_of}
 use Rattle.module_tree.specs.Source.{is_source}
+use Rattle.module_tree.specs.DeclaredAt.{NamesGoByPosition}
 use Rattle.module_tree.specs.SourceForms.{fits_part, fits_block, fits_interface, fits_signal, fits_parameter}
 use Rattle.module_tree.specs.SourceForms.{fits_expression}
 use Rattle.module_tree.specs.SourceWords.{is_written_name}
@@ -40,6 +41,7 @@ use Rattle.module_link.proofs.SameDeclarations.{each_part_resolved, main_resolve
 use Rattle.module_link.proofs.SameDeclarations.{same_signatures}
 use Rattle.module_link.proofs.PartExpressions.{place_fits, none_mean, small_same}
 use Rattle.module_link.proofs.RunParts.{stands_at}
+use Rattle.module_link.proofs.NamesByPosition.{names_by_position}
 use Rattle.module_link.proofs.PartFields as part
 
 each_declaration : (test : Part ℕ → Bool) (parts : Program)
@@ -172,8 +174,9 @@ signature_names parts e =
 
 -- ---- the whole
 
-pub fine_is_linked : (parts : Program) → FineText parts → IsLinked (resolved_parts parts)
-fine_is_linked parts text =
+pub fine_is_linked : (parts : Program) → FineText parts → NamesGoByPosition parts
+    → IsLinked (resolved_parts parts)
+fine_is_linked parts text positions =
     record {
       main = main_resolved parts text.main;
       scopes = each_part_resolved is_in_scope parts (each_weaker parts (Fine parts) _
@@ -193,6 +196,7 @@ fine_is_linked parts text =
           (λ m p fine. part.limits_hold parts text m p.scope p.part fine) text.each);
       forms = each_declaration is_formed parts (all_weaker _ _ (formed parts) parts text.forms);
       names = names;
+      names_by_position = names_by_position parts positions;
     }
   where
     names : all_names_differ (resolved_parts parts) ≡ true
@@ -210,6 +214,7 @@ fine_is_linked parts text =
         (λ m p fine. part.locals_hold parts text m p.scope p.part fine) text.each))
 
 -- a text without faults is linked once its names are resolved
-pub resolved_is_linked : (parts : Program) → is_source parts ≡ true → IsFaultless parts
-    → IsLinked (resolved_parts parts)
-resolved_is_linked parts source faultless = fine_is_linked parts (text_is_fine parts source faultless)
+pub resolved_is_linked : (parts : Program) → is_source parts ≡ true → NamesGoByPosition parts
+    → IsFaultless parts → IsLinked (resolved_parts parts)
+resolved_is_linked parts source positions faultless =
+    fine_is_linked parts (text_is_fine parts source faultless) positions
