@@ -6,3 +6,4 @@ pub mod Holders
 pub mod Events
 pub mod Stages
 pub mod Using
+pub mod Runs

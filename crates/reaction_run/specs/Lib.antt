@@ -4,3 +4,4 @@ pub mod Legal
 pub mod Laws
 pub mod Told
 pub mod Lives
+pub mod Reacting
