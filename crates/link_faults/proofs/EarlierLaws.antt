@@ -185,3 +185,10 @@ pub first_by_more : {A : Type 0} (f : A → Option LinkFault) (xs : List A) (i :
 first_by_more f xs i d within = ap (first_by f) (take_more xs i d within)
     ∙ first_by_joined f (take i xs) (get_or xs i d ∷ [])
     ∙ ap (earlier (first_by f (take i xs))) (earlier_none (f (get_or xs i d)))
+
+-- the step of a loop that goes over the items
+pub first_by_step : {A : Type 0} (f : A → Option LinkFault) (xs : List A) (i : ℕ) (x : A)
+    (old new one : Option LinkFault) → i < length xs → x ≡ get_or xs i x → old ≡ first_by f (take i xs)
+    → one ≡ f x → new ≡ earlier old one → new ≡ first_by f (take (i + 1) xs)
+first_by_step f xs i x old new one within at before is e = e ∙ ap (λ o. earlier o one) before
+    ∙ ap (earlier (first_by f (take i xs))) (is ∙ ap f at) ∙ sym (first_by_more f xs i x within)

@@ -8,3 +8,6 @@ pub mod InnermostFirst
 pub mod Meanings
 pub mod Judgements
 pub mod PartFaults
+pub mod NameTables
+pub mod CallableTables
+pub mod RunFaults

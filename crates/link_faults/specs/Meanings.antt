@@ -3,6 +3,7 @@
 use Rattle.std.specs.Prelude.{ℕ, Option, Some, None, option_map, slice_get}
 use Rattle.indexmap.specs.IndexMap.{get_by_text}
 use Rattle.hh_base.specs.declared.value.Kind.{Kind}
+use Rattle.module_tree.specs.declared.source.InterfaceNode.{InterfaceNode}
 use Rattle.module_tree.specs.Scopes.{Signal, InScope}
 use Rattle.link_faults.specs.declared.names.Meaning.{Meaning}
 use Rattle.link_faults.specs.declared.names.Names.{Names}
@@ -24,6 +25,9 @@ kind_of_parameter names name = get_by_text names.parameters name
 
 abbrev pub meaning : Signal → Meaning
 meaning s = record { kind = s.signal.kind; dir = s.dir }
+
+abbrev pub node_meaning : InterfaceNode → Meaning
+node_meaning d = record { kind = d.signal.kind; dir = d.dir }
 
 -- what is meant by the names in scope
 abbrev pub meant_in : InScope → Name → Option Meaning

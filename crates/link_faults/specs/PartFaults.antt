@@ -16,7 +16,7 @@ use Rattle.link_faults.specs.Faults.{earlier}
 use Rattle.link_faults.specs.Earliest.{first_at, first_by}
 use Rattle.link_faults.specs.Named.{Name}
 use Rattle.link_faults.specs.SourceKinds.{Kinds, misfits_in, wrong_for, wrong_value}
-use Rattle.link_faults.specs.Rows.{here_if, no_kinds, wrong_signal}
+use Rattle.link_faults.specs.Rows.{here_if, wrong_signal}
 use Rattle.link_faults.specs.Judgements.{first_unknown, unknown_at}
 
 -- ---- expressions
@@ -54,17 +54,17 @@ abbrev pub first_emitted : NameAt Name → Option Meaning → Option LinkFault
 first_emitted n None = Some (record { pos = n.pos; kind = fault.UnknownSignal })
 first_emitted n (Some m) = first_at fault.EmitsInput (here_if (is_input m.dir) n.pos)
 
-abbrev pub first_carried : Kinds → NameAt Name → Option Kind → Option (ExprAt Name) → Option LinkFault
-first_carried signals n None None = None
-first_carried signals n None (Some x) = first_anywhere signals no_kinds x
-first_carried signals n (Some kind.Pure) None = None
-first_carried signals n (Some kind.Pure) (Some x) = first_nowhere signals no_kinds x
-first_carried signals n (Some k) None = Some (record { pos = n.pos; kind = fault.KindWrong })
-first_carried signals n (Some k) (Some x) = first_expected signals no_kinds k x
+abbrev pub first_carried : Kinds → Kinds → NameAt Name → Option Kind → Option (ExprAt Name) → Option LinkFault
+first_carried signals args n None None = None
+first_carried signals args n None (Some x) = first_anywhere signals args x
+first_carried signals args n (Some kind.Pure) None = None
+first_carried signals args n (Some kind.Pure) (Some x) = first_nowhere signals args x
+first_carried signals args n (Some k) None = Some (record { pos = n.pos; kind = fault.KindWrong })
+first_carried signals args n (Some k) (Some x) = first_expected signals args k x
 
-abbrev pub first_emission : Meanings → NameAt Name → Option (ExprAt Name) → Option LinkFault
-first_emission meant n value = earlier (first_emitted n (meant n.name))
-    (first_carried (kinds_by meant) n (kinds_by meant n.name) value)
+abbrev pub first_emission : Meanings → Kinds → NameAt Name → Option (ExprAt Name) → Option LinkFault
+first_emission meant args n value = earlier (first_emitted n (meant n.name))
+    (first_carried (kinds_by meant) args n (kinds_by meant n.name) value)
 
 -- ---- declared signals
 

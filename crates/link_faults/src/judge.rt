@@ -106,7 +106,7 @@ fn choose_kind(test: Option<Kind>, taken: Option<Kind>) -> Option<Kind>
     }
 }
 
-fn unknown_at(pos: Pos, meant: Option<Kind>) -> Option<LinkFault>
+pub fn unknown_at(pos: Pos, meant: Option<Kind>) -> Option<LinkFault>
     ensures { result ≡ unknown_at pos meant }
 {
     match meant {

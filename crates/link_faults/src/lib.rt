@@ -6,4 +6,7 @@ pub mod fault;
 pub mod judge;
 pub mod names;
 pub mod parts;
+pub mod runs;
 pub mod scope;
+pub mod table;
+pub mod text;

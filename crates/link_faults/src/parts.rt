@@ -142,3 +142,46 @@ pub fn wrong_signal(signal: &SignalNode) -> Option<LinkFault>
     let fits = first_fits(signal.kind, &signal.first) && combine_fits(signal.kind, signal.combine);
     fault_if(!fits, signal.pos, LinkKind::KindWrong)
 }
+
+/// Of what an emission carries, of a signal of this kind.
+fn first_carried(
+    names: &Names,
+    signal: &NameAt<Name>,
+    kind: Option<Kind>,
+    value: &Option<ExprAt<Name>>,
+) -> Option<LinkFault>
+    ensures { result ≡ first_carried (kind_of_signal names.now) (kind_of_parameter names.now) signal.now kind
+        value.now }
+{
+    match (kind, value) {
+        (None | Some(Kind::Pure), None) => None,
+        (None, Some(x)) => first_anywhere(names, x),
+        (Some(Kind::Pure), Some(x)) => first_nowhere(names, x),
+        (Some(_), None) => fault_if(true, signal.pos, LinkKind::KindWrong),
+        (Some(kind), Some(x)) => first_expected(names, kind, x),
+    }
+}
+
+/// Of `emit` or `sustain`.
+pub fn first_emission(
+    names: &Names,
+    signal: &NameAt<Name>,
+    value: &Option<ExprAt<Name>>,
+) -> Option<LinkFault>
+    ensures { result ≡ first_emission (meaning_of names.now) (kind_of_parameter names.now) signal.now
+        value.now }
+{
+    let carried = first_carried(names, signal, names.kind_of_signal(&signal.name), value);
+    earlier(first_emitted(signal, names.signal(&signal.name)), carried)
+}
+
+/// Of the declared signals of a list, by their first values and combine words.
+pub fn first_wrong(signals: &[SignalNode]) -> Option<LinkFault>
+    ensures { result ≡ first_wrong signals.now }
+{
+    let mut first = None;
+    'signals: for signal in signals {
+        first = earlier(first, wrong_signal(signal));
+    }
+    first
+}
