@@ -1,1 +1,4 @@
 pub mod ScopeLemmas
+pub mod EarlierLaws
+pub mod VerdictLaw
+pub mod JudgementLaws

@@ -3,4 +3,7 @@
 #![tactic(auto)]
 
 pub mod fault;
+pub mod judge;
+pub mod names;
+pub mod parts;
 pub mod scope;

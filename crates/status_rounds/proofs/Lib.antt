@@ -1,0 +1,5 @@
+mod Declared
+mod Places
+mod Unknowns
+mod Interface
+mod Sound

@@ -1,0 +1,5 @@
+//! Rounds over a flat table of statuses to a standstill: the interface of a reaction is solved, and the table
+//! gives its step.
+#![tactic(auto)]
+
+pub mod settle;
