@@ -1,5 +1,7 @@
 -- Which bodies are covered, and what they answer.
-use Rattle.std.proofs.Common.{◌≡◌, ◌<◌, ◌≤◌, ◌+◌, ◌++◌, ◌∷◌, [], ℕ, Bool, true, false, Option, Some, None, List, All, get_or, length, take, sym, ap, subst, ◌∙◌, arith, IsTrue, is_some, Result, Ok, Err}
+use Rattle.std.proofs.Common.{◌≡◌, ◌<◌, ◌≤◌, ◌+◌, ◌++◌, ◌∷◌, [], ℕ, Bool, true, false, Option, Some, None}
+use Rattle.std.proofs.Common.{List, All, get_or, length, take, sym, ap, subst, ◌∙◌, arith, IsTrue, is_some}
+use Rattle.std.proofs.Common.{Result, Ok, Err}
 use Rattle.std.proofs.Math.Seq.{take-length}
 use Rattle.std.proofs.lemmas.List.{take_more}
 use Rattle.std.proofs.lemmas.List.Elements.{All-push}
@@ -28,28 +30,42 @@ module _ (hooks : List Promise) (b : BodyDecl) where
 
   -- a host body is covered exactly where a hook is found
   pub found_covers : {H : Type 0} (promise : H → Promise) (o : Option (Bor H)) → b.expr ≡ None
-      → MatchOption (option_copied o) ((h : Promise) → IsHookOf hooks b h → ⊥) (λ h. IsHookOf hooks b (promise h))
+      → MatchOption (option_copied o) ((h : Promise) → IsHookOf hooks b h
+      → ⊥) (λ h. IsHookOf hooks b (promise h))
       → (r : Bool) → r ≡ is_some o → (IsTrue r → IsCovered hooks b) × (IsCovered hooks b → IsTrue r)
   found_covers promise (Some h) is found r e = ((λ _. host_covered is (promise h.now, found)), (λ _. e))
-  found_covers promise None is lacks r e =
-      ((λ t. absurd (let no : false ≡ true = sym e ∙ t in cc)), (λ covered. let hook = hook_of_covered is covered in absurd (lacks hook.0 hook.1)))
+  found_covers promise None is lacks r e = (
+    (λ t. absurd (let no : false ≡ true = sym e ∙ t in cc)),
+    (λ covered. let hook = hook_of_covered is
+        covered in absurd (lacks hook.0 hook.1)),
+  )
 
   -- what its hook answers is what it may answer
-  pub hook_answers : (h : Promise) (args : List Value) (r : Result Value NoMemory) → b.expr ≡ None → IsHookOf hooks b h → kinds_of args ≡ b.params
+  pub hook_answers : (h : Promise) (args : List Value) (r : Result Value NoMemory) → b.expr ≡ None
+      → IsHookOf hooks b h → kinds_of args ≡ b.params
       → IfOk r (λ v. ∥ IsAllowedBy h.law h.answer args v ∥₁) → IfOk r (AnswersTo hooks b args)
   hook_answers h args (Ok v) none is kinds allowed =
-      let lawful : IsAllowedBy h.law h.answer args v = ∥∥₁_elim allowed (allowed_prop h.law h.answer args v) (λ a. a) in
+      let lawful : IsAllowedBy h.law h.answer args v = ∥∥₁_elim allowed (allowed_prop h.law h.answer args v)
+      (λ a. a) in
       record {
-        fitting = λ _. subst (λ o. Answers hooks b o args v) (sym none) (h, is, subst (λ k. IsAllowedBy h.law k args v) is.answer lawful);
+        fitting = λ _. subst (λ o. Answers hooks b o args v) (sym none) (
+          h,
+          is,
+          subst (λ k. IsAllowedBy h.law
+              k args v) is.answer lawful,
+        );
         unfitting = λ other. absurd (other kinds);
       }
   hook_answers h args (Err e) none is kinds allowed = tt
 
 -- ---- a walk over a list that has seen its first elements
-pub all_more : {X : Type 0} (P : X → Type 0) (xs : List X) (i : ℕ) (x : X) → i < length xs → x ≡ get_or xs i x → All P (take i xs) → P x → All P (take (i + 1) xs)
-all_more P xs i x l read all p = subst (All P) (sym (take_more xs i x l ∙ ap (λ y. take i xs ++ y ∷ []) (sym read))) (All-push P (take i xs) x all p)
+pub all_more : {X : Type 0} (P : X → Type 0) (xs : List X) (i : ℕ) (x : X) → i < length xs
+    → x ≡ get_or xs i x → All P (take i xs) → P x → All P (take (i + 1) xs)
+all_more P xs i x l read all p = subst (All P) (sym (take_more xs i x l
+    ∙ ap (λ y. take i xs ++ y ∷ []) (sym read))) (All-push P (take i xs) x all p)
 
-pub all_seen : {X : Type 0} (P : X → Type 0) (xs : List X) (i : ℕ) → i ≤ length xs → length xs ≤ i → All P (take i xs) → All P xs
+pub all_seen : {X : Type 0} (P : X → Type 0) (xs : List X) (i : ℕ) → i ≤ length xs → length xs ≤ i
+    → All P (take i xs) → All P xs
 all_seen P xs i le ge all =
     let same : i ≡ length xs = omega arith in
     subst (All P) (ap (λ k. take k xs) same ∙ take-length xs) all

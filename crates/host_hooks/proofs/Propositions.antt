@@ -10,7 +10,8 @@ use Rattle.host_hooks.specs.declared.law.HookLaw.{HookLaw}
 use Rattle.host_hooks.specs.declared.law.HookLaw.TheVariants.{AnyOfKind, Within, Equals}
 use Rattle.host_hooks.specs.Law.{Allows, IsAllowedBy}
 
-allows_prop : (law : HookLaw) (answer : Kind) (args : List Value) (v : Value) → IsProp (Allows law answer args v)
+allows_prop : (law : HookLaw) (answer : Kind) (args : List Value) (v : Value)
+    → IsProp (Allows law answer args v)
 allows_prop AnyOfKind answer args v = Unit-prop
 allows_prop (Within least most) answer args v = hlevel Bool-set
 allows_prop (Equals e) answer args v = Coded-set value.the_row.coded _ _
@@ -18,5 +19,6 @@ allows_prop (Equals e) answer args v = Coded-set value.the_row.coded _ _
 kind_set : (k l : Kind) → IsProp (k ≡ l)
 kind_set k l = Coded-set kind.the_row.coded k l
 
-pub allowed_prop : (law : HookLaw) (answer : Kind) (args : List Value) (v : Value) → IsProp (IsAllowedBy law answer args v)
+pub allowed_prop : (law : HookLaw) (answer : Kind) (args : List Value) (v : Value)
+    → IsProp (IsAllowedBy law answer args v)
 allowed_prop law answer args v = hlevel (kind_set, allows_prop)

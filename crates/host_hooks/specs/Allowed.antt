@@ -33,7 +33,8 @@ Allowed hooks (Some b) args v = AnswersTo hooks b args v
 Allowed hooks None args v = v ≡ value.Unit
 
 -- a last answer to the instance, with a value that its body may answer to its arguments
-pub record IsAllowedAnswer (hooks : List Promise) (bodies : List BodyDecl) (i : Instance) (a : Answer) : Type 0 where
+pub record IsAllowedAnswer (hooks : List Promise) (bodies : List BodyDecl) (i : Instance) (a : Answer)
+    : Type 0 where
   pub id : a.id ≡ i.id
   pub last : a.last ≡ true
   pub value : Allowed hooks (slice_get bodies i.body) i.args a.value

@@ -18,7 +18,8 @@ use Rattle.host_hooks.specs.declared.law.HookLaw.TheVariants.{AnyOfKind, Within,
 abbrev pub kinds_of : List Value → List Kind
 kinds_of vs = map kind_of vs
 
--- what an expression over parameters gives for these arguments: its value, or its kind's default where it faults
+-- what an expression over parameters gives for these arguments: its value, or its kind's default where it
+-- faults
 abbrev pub computed : Kind → Expression → List Value → Value
 computed answer e args = counts_as answer (eval_of e blank args)
 
@@ -54,6 +55,8 @@ abbrev pub TakesAll : List Kind → (Bor (List Value) → Type 0) → Type 0
 TakesAll params may_call = (args : Bor (List Value)) → kinds_of args.now ≡ params → may_call args
 
 -- each value that it then answers is of the answer's kind and allowed by the law
-abbrev pub AnswersAllowed : HookLaw → List Kind → Kind → (Bor (List Value) → Result Value NoMemory → Type 0) → Type 0
+abbrev pub AnswersAllowed
+    : HookLaw → List Kind → Kind → (Bor (List Value) → Result Value NoMemory → Type 0) → Type 0
 AnswersAllowed law params answer answers =
-    (args : Bor (List Value)) (v : Value) → kinds_of args.now ≡ params → answers args (Ok v) → ∥ IsAllowedBy law answer args.now v ∥₁
+    (args : Bor (List Value)) (v : Value) → kinds_of args.now ≡ params → answers args (Ok v)
+    → ∥ IsAllowedBy law answer args.now v ∥₁

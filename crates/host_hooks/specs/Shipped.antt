@@ -1,4 +1,5 @@
--- The hooks of the program as it is shipped: the number of bytes of a text, and whether two texts are the same. (This project's own.)
+-- The hooks of the program as it is shipped: the number of bytes of a text, and whether two texts are the
+-- same. (This project's own.)
 use Rattle.std.specs.Prelude.{◌≡◌, ℕ, pos, List, [], ◌∷◌}
 use Rattle.hh_base.specs.declared.text.TheConstants.{TEXT_LIMIT}
 use Rattle.hh_base.specs.declared.value.Kind.{Kind}

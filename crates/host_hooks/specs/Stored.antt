@@ -1,4 +1,5 @@
--- A table of hooks as contracts see it: their promises, in the order in which they were added. (This project's own.)
+-- A table of hooks as contracts see it: their promises, in the order in which they were added. (This
+-- project's own.)
 use Rattle.std.specs.Prelude.{List, map}
 use Rattle.std.specs.HashMap.{values}
 use Rattle.host_hooks.specs.declared.table.HookTable.{HookTable}

@@ -11,8 +11,8 @@ use hh_base::value::{Kind, Value};
 /// What a hook runs: it answers a value to a list of arguments, unless memory runs out.
 pub type HookCall = Box<dyn Fn(&[Value]) -> Result<Value, NoMemory> + Send + Sync>;
 
-/// A body that the host stores: its name, the kinds of its arguments and of its answer, what it promises of its
-/// answers, and what it runs, which keeps that promise. Contracts see all but the last.
+/// A body that the host stores: its name, the kinds of its arguments and of its answer, what it promises of
+/// its answers, and what it runs, which keeps that promise. Contracts see all but the last.
 #[derive(Drop)]
 pub struct Hook {
     name: Name,
@@ -28,13 +28,18 @@ pub struct Hook {
 impl Hook {
     ghost use Rattle.host_hooks.specs.Promise.{promise_of};
 
-    /// The hook that runs this call, which may be called on all arguments of these kinds, and each value that it
-    /// then answers is of the answer's kind and allowed by the law. Takes no memory.
+    /// The hook that runs this call, which may be called on all arguments of these kinds, and each value
+    /// that it then answers is of the answer's kind and allowed by the law. Takes no memory.
     pub fn new(name: Name, params: Vec<Kind>, answer: Kind, law: HookLaw, call: HookCall) -> Hook
         requires fits { ∥ LawFits law params.items answer ∥₁ }
         requires takes { TakesAll params.items (HookCall.pre call) }
         requires answers { AnswersAllowed law params.items answer (HookCall.post call) }
-        ensures { promise_of result ≡ record { name = name; params = params.items; answer = answer; law = law } }
+        ensures { promise_of result ≡ record {
+          name = name;
+          params = params.items;
+          answer = answer;
+          law = law;
+        } }
     {
         Hook {
             name,

@@ -1,5 +1,5 @@
-//! Bodies that the host stores for async statements, what each promises of its answers, and the call of a running
-//! instance's body.
+//! Bodies that the host stores for async statements, what each promises of its answers, and the call of a
+//! running instance's body.
 #![tactic(auto)]
 
 pub mod call;

@@ -43,7 +43,8 @@ fn store(hooks: &mut IndexMap<String, Hook>, key: String, hook: Hook) -> Result<
 
 /// Whether the hook is one for the kinds of the body's parameters and answer.
 fn meets(hook: &Hook, body: &BodyDecl) -> bool
-    ensures { IsTrue result ↔ ((hook.now.params.items ≡ body.now.params) × (hook.now.answer ≡ body.now.answer)) }
+    ensures { IsTrue result ↔ ((hook.now.params.items ≡ body.now.params)
+        × (hook.now.answer ≡ body.now.answer)) }
 {
     hook.answer() == body.answer && same_kinds(hook.params(), body.params.as_slice())
 }
@@ -82,7 +83,9 @@ impl HookTable {
 
     /// The hook of the body.
     pub fn find(&self, body: &BodyDecl) -> Option<&Hook>
-        ensures { MatchOption (option_copied result) ((h : Promise) → IsHookOf (promises_of self.now) body.now h → ⊥) (λ h. IsHookOf (promises_of self.now) body.now (promise_of h)) }
+        ensures { MatchOption (option_copied result) ((h : Promise)
+            → IsHookOf (promises_of self.now) body.now h → ⊥) (λ h. IsHookOf (promises_of self.now) body.now
+            (promise_of h)) }
     {
         let hook = self.hooks.get(body.name.as_str())?;
         if meets(hook, body) { Some(hook) } else { None }
@@ -97,8 +100,8 @@ impl HookTable {
         }
     }
 
-    /// Whether each body of the host has a hook of its name, its parameters' kinds and its answer's kind; else
-    /// the place of the first that has none. Linear in the bodies.
+    /// Whether each body of the host has a hook of its name, its parameters' kinds and its answer's kind;
+    /// else the place of the first that has none. Linear in the bodies.
     pub fn covers(&self, bodies: &[BodyDecl]) -> Result<(), usize>
         ensures ok { OnOk result (All (IsCovered (promises_of self.now)) bodies.now) }
         ensures first { IfErr result (IsFirstUncovered (promises_of self.now) bodies.now) }

@@ -6,7 +6,8 @@ use Rattle.host_hooks.proofs.call.answer_of.Goals as goal
 
 pub returns-in-Some-find : goal.returns-in-Some-find
 returns-in-Some-find g c =
-    hook_answers (promises_of c.args.hooks.now) c.args.body.now (promise_of c.in-Some-find.hook.now) c.args.args.now c.run.result c.in_default.is c.in-Some-find.ensures
+    hook_answers (promises_of c.args.hooks.now) c.args.body.now (promise_of c.in-Some-find.hook.now)
+    c.args.args.now c.run.result c.in_default.is c.in-Some-find.ensures
     (c.are_of_kinds.ensures.0 c.if-not-are_of_kinds.false ∙ c.as_slice.ensures) c.run.ensures
 
 pub returns-in-None : goal.returns-in-None
