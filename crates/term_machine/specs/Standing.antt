@@ -10,8 +10,8 @@ abbrev pub times : ℕ → List ℕ → ℕ
 times id [] = 0
 times id (i ∷ is) = cond (i == id) (suc (times id is)) (times id is)
 
--- control rests in the program's statement. The ids in its marks differ, lie from 1 to the last id, and are those of
--- the running instances: each id stands there once where an instance runs with it, else not
+-- control rests in the program's statement. The ids in its marks differ, lie from 1 to the last id, and are
+-- those of the running instances: each id stands there once where an instance runs with it, else not
 pub record Stands (S : State Place) : Type 0 where
   pub rests : IsControlOf S.place.kernel.statement S.place.control
   pub rising : IsRising S.running S.last
