@@ -43,7 +43,8 @@ abbrev pub EventFits : List SignalDecl → Event → Type 0
 EventFits interface (React inputs took) = InputsFit interface inputs
 EventFits interface _ = Unit {0}
 
--- an id needs no answer more: no instance runs with it, its instance has its last answer, or a last answer to it waits
+-- an id needs no answer more: no instance runs with it, its instance has its last answer, or a last answer to
+-- it waits
 abbrev pub has_last : Option Instance → Bool
 has_last (Some i) = ends_with_last i.queue
 has_last None = true
@@ -55,7 +56,8 @@ abbrev pub is_settled : {Place : Type 0} → State Place → ℕ → Bool
 is_settled S id = has_last (holder S.running id) || list_any (is_last_for id) S.pending
 
 -- one event: the reply and the next state are those of the machine's step, and one entry was added to the log
-abbrev pub Reacts : {Place : Type 0} → Machine Place → State Place → State Place → Event → List Entry → List Entry
-    → Reply → Type 0
+abbrev pub Reacts : {Place : Type 0} → Machine Place → State Place → State Place → Event → List Entry
+    → List Entry → Reply → Type 0
 Reacts M before after e log more r =
-    (r ≡ reply_of M before e) × (after ≡ next_state M before e) × (more ≡ log ++ record { event = e; reply = r } ∷ [])
+    (r ≡ reply_of M before e) × (after ≡ next_state M before e)
+    × (more ≡ log ++ record { event = e; reply = r } ∷ [])

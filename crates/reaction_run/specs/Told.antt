@@ -1,11 +1,13 @@
 -- What replies tell of one instance, and which answers entered for it. (This project's own.)
-use Rattle.std.specs.Prelude.{ℕ, Bool, false, ◌==◌, nat_lt, is_some, if◌then◌else◌, Option, Some, None, List, [], ◌∷◌, ◌++◌, filter, map}
+use Rattle.std.specs.Prelude.{ℕ, Bool, false, ◌==◌, nat_lt, is_some, if◌then◌else◌, Option, Some, None}
+use Rattle.std.specs.Prelude.{List, [], ◌∷◌, ◌++◌, filter, map}
 use Rattle.hh_base.specs.declared.value.Value.{Value}
 use Rattle.hh_base.specs.declared.item.Item.{Item}
 use Rattle.exec_instance.specs.declared.answer.Answer.{Answer}
 use Rattle.exec_instance.specs.declared.instance.Instance.{Instance}
 use Rattle.exec_instance.specs.declared.effect.Effect.{Effect}
-use Rattle.exec_instance.specs.declared.effect.Effect.TheVariants.{Dropped, More, Ended, Killed, Suspended, Resumed, Started}
+use Rattle.exec_instance.specs.declared.effect.Effect.TheVariants.{Dropped, More, Ended, Killed}
+use Rattle.exec_instance.specs.declared.effect.Effect.TheVariants.{Suspended, Resumed, Started}
 use Rattle.exec_instance.specs.Entering.{Rules, Verdict, Enters, Drops, verdict, after}
 use Rattle.exec_instance.specs.Running.{holder}
 use Rattle.reaction_run.specs.declared.event.Event.{Event}
@@ -45,7 +47,8 @@ pub data Stage : Type 0 where
   Runs : Stage
   Stopped : Stage
 
--- from this stage on it starts at most once, it uses answers only while it runs, and while it runs it ends or is killed at most once
+-- from this stage on it starts at most once, it uses answers only while it runs, and while it runs it ends or
+-- is killed at most once
 abbrev pub IsLife : Stage → List Effect → Type 0
 IsLife stage [] = Unit {0}
 IsLife NotStarted (Started id body args ∷ es) = IsLife Runs es
@@ -83,14 +86,17 @@ values_entering id r running (a ∷ rest) =
 
 module _ {Place : Type 0} (M : Machine Place) where
   abbrev pub stage_of : State Place → ℕ → Stage
-  stage_of S id = if nat_lt S.last id then NotStarted else if is_some (holder S.running id) then Runs else Stopped
+  stage_of S id =
+      if nat_lt S.last id then NotStarted else if is_some (holder S.running id) then Runs else Stopped
 
   abbrev pub waiting_for : State Place → ℕ → List Value
   waiting_for S id = values_waiting (holder S.running id)
 
   -- an event lets answers enter where its reaction is accepted
   abbrev pub entered_at : State Place → Event → ℕ → List Value
-  entered_at S e id = if is_done (reply_of M S e) then values_entering id (rules M S) S.running (S.pending ++ took_by e) else []
+  entered_at S e id =
+      if is_done (reply_of M S e) then values_entering id (rules M S) S.running (S.pending ++ took_by e)
+      else []
 
   abbrev pub entered_in : State Place → List Event → ℕ → List Value
   entered_in S [] id = []

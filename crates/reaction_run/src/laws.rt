@@ -1,8 +1,10 @@
 //! Laws of every run, for any step that a machine names. Each call does nothing; its contract is the law.
 
 ghost use Rattle.reaction_run.specs.Machine.{Machine};
-ghost use Rattle.reaction_run.specs.Lives.{StaysRising, LivesOnce, LivesOnceFromBegin, UsesOne, UsesWhatEntered};
-ghost use Rattle.reaction_run.specs.Laws.{GoneIsStale, GoneStaysGone, StartsCount, TriedOnce, RefusalKeeps, ResetStops};
+ghost use Rattle.reaction_run.specs.Lives.{StaysRising, LivesOnce, LivesOnceFromBegin};
+ghost use Rattle.reaction_run.specs.Lives.{UsesOne, UsesWhatEntered};
+ghost use Rattle.reaction_run.specs.Laws.{GoneIsStale, GoneStaysGone, StartsCount};
+ghost use Rattle.reaction_run.specs.Laws.{TriedOnce, RefusalKeeps, ResetStops};
 
 /// Each answer is tried by at most one accepted reaction.
 pub fn tried_once<Place>()
@@ -35,8 +37,8 @@ pub fn stays_rising<Place>()
     ensures { (M : Machine Place) → StaysRising M }
 {}
 
-/// An instance starts at most once, and only after its start it uses answers and ends or is killed, at most once
-/// and never both.
+/// An instance starts at most once, and only after its start it uses answers and ends or is killed, at most
+/// once and never both.
 pub fn lives_once<Place>()
     ensures lives { (M : Machine Place) → LivesOnce M }
     ensures from_begin { (M : Machine Place) → LivesOnceFromBegin M }

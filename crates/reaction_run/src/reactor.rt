@@ -18,9 +18,9 @@ use hh_base::value::NoMemory;
 use hh_term::program::SignalDecl;
 use std::alloc::Global;
 
-/// A machine that takes events. What it stands for is a state of a machine of the definitions, by whose step it
-/// replies. After want of memory it stands where it stood, and the log and the answers that were to be taken
-/// are as they were.
+/// A machine that takes events. What it stands for is a state of a machine of the definitions, by whose step
+/// it replies. After want of memory it stands where it stood, and the log and the answers that were to be
+/// taken are as they were.
 pub trait Reactor {
     /// Where it stands, beside its instances and the answers that wait.
     ghost Place: { Type 0 };
@@ -37,8 +37,8 @@ pub trait Reactor {
     fn interface(&self) -> &[SignalDecl]
         ensures { result.now ≡ signals self.now };
 
-    /// Whether each input names an `in` or `inout` signal and has its kind, and no signal stands twice. Takes no
-    /// memory.
+    /// Whether each input names an `in` or `inout` signal and has its kind, and no signal stands twice. Takes
+    /// no memory.
     fn fits(&self, inputs: &[Input]) -> bool
         ensures { IsTrue result ↔ InputsFit (signals self.now) inputs.now };
 
@@ -51,21 +51,27 @@ pub trait Reactor {
         log: &mut Log,
     ) -> Result<Reply, NoMemory>
         requires { InputsFit (signals self.old) inputs.now }
-        ensures reacts { IfOk result (λ r. Reacts machine (state self.old) (state self.new) (React inputs.now took.old) log.old log.new r) }
+        ensures reacts { IfOk result (Reacts machine (state self.old) (state self.new)
+            (React inputs.now took.old) log.old log.new) }
         ensures took { OnOk result (took.new ≡ []) }
-        ensures err { OnErr result ((state self.new ≡ state self.old) × (took.new ≡ took.old) × (log.new ≡ log.old)) }
+        ensures err { OnErr result ((state self.new ≡ state self.old) × (took.new ≡ took.old)
+            × (log.new ≡ log.old)) }
         ensures signals { signals self.new ≡ signals self.old };
 
     /// Reacts without inputs, where answers wait or are taken. Else it is idle.
     fn pump(&mut self, alloc: Global, took: &mut Answers, log: &mut Log) -> Result<Reply, NoMemory>
-        ensures reacts { IfOk result (λ r. Reacts machine (state self.old) (state self.new) (Pump took.old) log.old log.new r) }
+        ensures reacts { IfOk result (Reacts machine (state self.old) (state self.new)
+            (Pump took.old) log.old log.new) }
         ensures took { OnOk result (took.new ≡ []) }
-        ensures err { OnErr result ((state self.new ≡ state self.old) × (took.new ≡ took.old) × (log.new ≡ log.old)) }
+        ensures err { OnErr result ((state self.new ≡ state self.old) × (took.new ≡ took.old)
+            × (log.new ≡ log.old)) }
         ensures signals { signals self.new ≡ signals self.old };
 
-    /// Puts the program back to its start and kills the instances. The answers that wait and the last id stay.
+    /// Puts the program back to its start and kills the instances. The answers that wait and the last id
+    /// stay.
     fn reset(&mut self, alloc: Global, log: &mut Log) -> Result<Reply, NoMemory>
-        ensures reacts { IfOk result (λ r. Reacts machine (state self.old) (state self.new) Reset log.old log.new r) }
+        ensures reacts { IfOk result (Reacts machine (state self.old) (state self.new) Reset
+            log.old log.new) }
         ensures err { OnErr result ((state self.new ≡ state self.old) × (log.new ≡ log.old)) }
         ensures signals { signals self.new ≡ signals self.old };
 
@@ -95,7 +101,8 @@ pub fn take_event<R: Reactor>(
     log: &mut Log,
 ) -> Result<Reply, NoMemory>
     requires { EventFits (R.signals machine.old) event.now }
-    ensures reacts { IfOk result (λ r. Reacts R.machine (R.state machine.old) (R.state machine.new) event.now log.old log.new r) }
+    ensures reacts { IfOk result (Reacts R.machine (R.state machine.old) (R.state machine.new) event.now
+        log.old log.new) }
     ensures err { OnErr result ((R.state machine.new ≡ R.state machine.old) × (log.new ≡ log.old)) }
     ensures signals { R.signals machine.new ≡ R.signals machine.old }
 {
@@ -120,8 +127,10 @@ pub fn run<R: Reactor>(
 ) -> Result<Vec<Reply>, NoMemory>
     requires { AllByRecursion (EventFits (R.signals machine.old)) events.now }
     ensures replies { IfOk result (λ r. r.items ≡ replies R.machine (R.state machine.old) events.now) }
-    ensures state { OnOk result (R.state machine.new ≡ final_state R.machine (R.state machine.old) events.now) }
-    ensures err { OnErr result ((k : ℕ) × (R.state machine.new ≡ final_state R.machine (R.state machine.old) (take k events.now))) }
+    ensures state { OnOk result (R.state machine.new
+        ≡ final_state R.machine (R.state machine.old) events.now) }
+    ensures err { OnErr result ((k : ℕ) × (R.state machine.new
+        ≡ final_state R.machine (R.state machine.old) (take k events.now))) }
     ensures signals { R.signals machine.new ≡ R.signals machine.old }
 {
     let mut log = Log::new(alloc);

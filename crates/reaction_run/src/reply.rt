@@ -27,9 +27,9 @@ pub struct Done {
     pub effects: Effects,
 }
 
-/// The reply to an event. Refusals of a reaction are: signals left undecided, by name in order of declaration;
-/// a valued signal without a combine word that was emitted twice; a fault at a position; that no ids are left,
-/// with the last one. `Idle` where nothing waits to be pumped, and the kills of a reset.
+/// The reply to an event. Refusals of a reaction are: signals left undecided, by name in order of
+/// declaration; a valued signal without a combine word that was emitted twice; a fault at a position; that no
+/// ids are left, with the last one. `Idle` where nothing waits to be pumped, and the kills of a reset.
 #[derive(Drop)]
 pub enum Reply {
     Done(Done),
