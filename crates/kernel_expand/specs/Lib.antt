@@ -8,3 +8,5 @@ pub mod Renaming
 pub mod Numbering
 pub mod Expansion
 pub mod Weighed
+pub mod Forms
+pub mod Refusals

@@ -1,0 +1,15 @@
+pub mod Lists
+pub mod ResolvedParts
+pub mod SourceWalks
+pub mod Expressions
+pub mod ScopePlaces
+pub mod Faultless
+pub mod SameDeclarations
+pub mod NamesByPosition
+pub mod Meanings
+pub mod Distinct
+pub mod Bound
+pub mod PartExpressions
+pub mod RunParts
+pub mod PartFields
+pub mod ResolvedLinked

@@ -1,7 +1,7 @@
 -- The ids of the instances that a run starts.
-use Rattle.std.proofs.Common.{◌≡◌, ℕ, suc, ◌+◌, Bool, true, false, Option, Some, None, List, [], ◌∷◌, ◌++◌, length, map, refl, sym, ◌∙◌, ap, subst, arith, append-nil}
+use Rattle.std.proofs.Common.{◌≡◌, ℕ, suc, ◌+◌, Bool, true, false, Option, Some, None, List, [], ◌∷◌, ◌++◌, length, map, refl, sym, ◌∙◌, ap, subst, arith}
 use Rattle.std.specs.Prelude.{if◌then◌else◌, slice_get, option_map}
-use Rattle.std.specs.List.{filter_map, cons_option}
+use Rattle.std.specs.List.{cons_option}
 use Rattle.hh_base.specs.declared.value.Value.{Value}
 use Rattle.hh_base.specs.declared.item.Item.{Item}
 use Rattle.exec_instance.specs.declared.answer.Answer.{Answer}
@@ -12,7 +12,7 @@ use Rattle.exec_instance.specs.declared.effect.Effect.TheVariants.{Dropped, More
 use Rattle.exec_instance.specs.declared.table.Row.{Row}
 use Rattle.exec_instance.specs.declared.table.Row.TheVariants as row
 use Rattle.exec_instance.specs.Changes.{change_of}
-use Rattle.exec_instance.specs.Effects.{new_args, born, last_after, started, row_of, with_change, effect_in, old_effects, effects, of_first, when}
+use Rattle.exec_instance.specs.Effects.{new_args, born, last_after, started, row_of, with_change, effect_in, old_effects, of_first, when}
 use Rattle.exec_instance.specs.Entering.{Rules, Verdict, Enters, Drops, verdict, after, dropped, drops}
 use Rattle.reaction_run.specs.declared.event.Input.{Input}
 use Rattle.reaction_run.specs.declared.event.Event.{Event}
@@ -20,7 +20,7 @@ use Rattle.reaction_run.specs.declared.event.Event.TheVariants.{React, Pump, Res
 use Rattle.reaction_run.specs.declared.reply.Reply.{Reply}
 use Rattle.reaction_run.specs.declared.reply.Reply.TheVariants as reply
 use Rattle.reaction_run.specs.Machine.{Machine, State, Outcome, Undecided, Doubled, Faulted, Completes}
-use Rattle.reaction_run.specs.Run.{replies, final_state, next_state, reply_of, reply_of_reaction, after_reaction, reply_to, state_after, refused, is_worn, outcome, is_none_waiting, with_answers, rules}
+use Rattle.reaction_run.specs.Run.{replies, next_state, reply_of, reply_of_reaction, after_reaction, reply_to, state_after, refused, is_worn, outcome, is_none_waiting, with_answers, rules}
 use Rattle.reaction_run.specs.Laws.{started_ids, started_by, started_in, CountsFrom, StartsCount}
 
 -- ids of effects put together

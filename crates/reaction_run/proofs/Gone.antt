@@ -1,6 +1,6 @@
 -- An id with which no instance runs any more.
-use Rattle.std.proofs.Common.{◌≡◌, ℕ, suc, ◌+◌, ◌≤◌, Bool, true, false, cond, Option, Some, None, List, [], ◌∷◌, ◌++◌, length, map, refl, sym, ◌∙◌, ap, subst, arith}
-use Rattle.std.specs.Prelude.{◌==◌, ◌&&◌, if◌then◌else◌, IfSome, nat_lt, nat_le, not}
+use Rattle.std.proofs.Common.{◌≡◌, ℕ, suc, ◌≤◌, Bool, true, false, cond, Option, Some, None, List, [], ◌∷◌, ◌++◌, map, refl, ◌∙◌, ap, arith}
+use Rattle.std.specs.Prelude.{◌==◌, ◌&&◌, if◌then◌else◌, IfSome, not}
 use Rattle.std.specs.List.{cons_option}
 use Rattle.std.proofs.lemmas.Bool.Decides.{nat_tests}
 use Rattle.hh_base.specs.declared.value.Value.{Value}
@@ -8,9 +8,9 @@ use Rattle.hh_base.specs.declared.item.Item.{Item}
 use Rattle.exec_instance.specs.declared.answer.Answer.{Answer}
 use Rattle.exec_instance.specs.declared.change.Change.{Change}
 use Rattle.exec_instance.specs.declared.instance.Instance.{Instance}
-use Rattle.exec_instance.specs.declared.effect.Reason.TheVariants.{Stale, Unknown}
+use Rattle.exec_instance.specs.declared.effect.Reason.TheVariants.{Unknown}
 use Rattle.exec_instance.specs.Changes.{change_of}
-use Rattle.exec_instance.specs.Effects.{new_args, born, last_after, after_change, changed, kept, advanced}
+use Rattle.exec_instance.specs.Effects.{new_args, born, after_change, changed, kept, advanced}
 use Rattle.exec_instance.specs.Entering.{Rules, Verdict, Enters, Drops, was_given, verdict, verdict_at, after, entered, with_item, item_of}
 use Rattle.exec_instance.specs.Running.{holder}
 use Rattle.reaction_run.specs.declared.event.Input.{Input}

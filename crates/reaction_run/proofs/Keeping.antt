@@ -1,5 +1,5 @@
 -- Which answers were tried, and what a refusal and a reset keep.
-use Rattle.std.proofs.Common.{◌≡◌, ℕ, Bool, true, false, List, [], ◌∷◌, ◌++◌, refl, sym, ◌∙◌, ap, append-nil, append_assoc}
+use Rattle.std.proofs.Common.{◌≡◌, Bool, true, false, List, [], ◌∷◌, ◌++◌, refl, sym, ◌∙◌, ap, append-nil, append_assoc}
 use Rattle.std.specs.Prelude.{if◌then◌else◌}
 use Rattle.exec_instance.specs.declared.answer.Answer.{Answer}
 use Rattle.reaction_run.specs.declared.event.Input.{Input}
@@ -9,7 +9,7 @@ use Rattle.reaction_run.specs.declared.reply.Reply.{Reply}
 use Rattle.reaction_run.specs.declared.reply.Reply.TheVariants as reply
 use Rattle.reaction_run.specs.Machine.{Machine, State, Outcome, Undecided, Doubled, Faulted, Completes}
 use Rattle.reaction_run.specs.Run.{replies, final_state, next_state, reply_of, reply_of_reaction, after_reaction, reply_to, state_after, refused, is_worn, outcome, is_none_waiting}
-use Rattle.reaction_run.specs.Legal.{took_by, took_in, tried, left, is_done}
+use Rattle.reaction_run.specs.Legal.{took_by, took_in, tried, is_done}
 use Rattle.reaction_run.specs.Laws.{TriedOnce, RefusalKeeps, ResetStops}
 
 module _ {Place : Type 0} (M : Machine Place) where

@@ -1,5 +1,5 @@
 -- What holds of every run of every machine, whatever its step does in a reaction.
-use Rattle.std.specs.Prelude.{◌≡◌, ℕ, suc, ◌≤◌, Bool, true, false, None, List, [], ◌∷◌, ◌++◌}
+use Rattle.std.specs.Prelude.{◌≡◌, ℕ, suc, ◌≤◌, false, None, List, [], ◌∷◌, ◌++◌}
 use Rattle.exec_instance.specs.declared.answer.Answer.{Answer}
 use Rattle.exec_instance.specs.declared.effect.Effect.{Effect}
 use Rattle.exec_instance.specs.declared.effect.Effect.TheVariants.{Started}
@@ -13,7 +13,7 @@ use Rattle.reaction_run.specs.declared.reply.Reply.{Reply}
 use Rattle.reaction_run.specs.declared.reply.Reply.TheVariants as reply
 use Rattle.reaction_run.specs.Machine.{Machine, State}
 use Rattle.reaction_run.specs.Run.{replies, final_state, next_state, reply_of_reaction, after_reaction, refused, rules}
-use Rattle.reaction_run.specs.Legal.{took_in, tried, left, is_done}
+use Rattle.reaction_run.specs.Legal.{took_in, tried, is_done}
 
 -- the ids that effects tell to be started
 abbrev pub started_ids : List Effect → List ℕ

@@ -4,7 +4,6 @@ use Rattle.exec_instance.specs.declared.answer.Answer.{Answer}
 use Rattle.exec_instance.specs.declared.instance.Instance.{Instance}
 use Rattle.exec_instance.specs.declared.effect.Effect.{Effect}
 use Rattle.exec_instance.specs.declared.effect.Effect.TheVariants.{Killed}
-use Rattle.exec_instance.specs.declared.change.Change.{Change}
 use Rattle.exec_instance.specs.Entering.{Rules, under, entered, drops}
 use Rattle.exec_instance.specs.Effects.{effects, advanced, last_after}
 use Rattle.reaction_run.specs.declared.event.Input.{Input}
@@ -12,7 +11,7 @@ use Rattle.reaction_run.specs.declared.event.Event.{Event}
 use Rattle.reaction_run.specs.declared.event.Event.TheVariants.{React, Pump, Reset}
 use Rattle.reaction_run.specs.declared.reply.Reply.{Reply}
 use Rattle.reaction_run.specs.declared.reply.Reply.TheVariants as reply
-use Rattle.reaction_run.specs.Machine.{Machine, State, Outcome, Undecided, Doubled, Faulted, Completes, Completed}
+use Rattle.reaction_run.specs.Machine.{Machine, State, Outcome, Undecided, Doubled, Faulted, Completes}
 
 -- the last id that still lets a reaction run
 abbrev pub last_limit : ℕ

@@ -1,7 +1,10 @@
 //! Laws of every run, for any step that a machine names. Each call does nothing; its contract is the law.
 
 ghost use Rattle.reaction_run.specs.Machine.{Machine};
-ghost use Rattle.reaction_run.specs.Laws.{GoneIsStale, GoneStaysGone, StartsCount, TriedOnce, RefusalKeeps, ResetStops};
+ghost use Rattle.reaction_run.specs.Lives.{StaysRising, LivesOnce, LivesOnceFromBegin};
+ghost use Rattle.reaction_run.specs.Lives.{UsesOne, UsesWhatEntered};
+ghost use Rattle.reaction_run.specs.Laws.{GoneIsStale, GoneStaysGone, StartsCount};
+ghost use Rattle.reaction_run.specs.Laws.{TriedOnce, RefusalKeeps, ResetStops};
 
 /// Each answer is tried by at most one accepted reaction.
 pub fn tried_once<Place>()
@@ -27,4 +30,22 @@ pub fn starts_count<Place>()
 pub fn gone_for_good<Place>()
     ensures stays { (M : Machine Place) → GoneStaysGone M }
     ensures stale { (M : Machine Place) → GoneIsStale M }
+{}
+
+/// Running instances stand in rising id, through all events.
+pub fn stays_rising<Place>()
+    ensures { (M : Machine Place) → StaysRising M }
+{}
+
+/// An instance starts at most once, and only after its start it uses answers and ends or is killed, at most
+/// once and never both.
+pub fn lives_once<Place>()
+    ensures lives { (M : Machine Place) → LivesOnce M }
+    ensures from_begin { (M : Machine Place) → LivesOnceFromBegin M }
+{}
+
+/// Where a machine uses one answer of an instance in a reaction at most, the values that an instance used are
+/// the first ones of those that entered for it, in their order.
+pub fn uses_what_entered<Place>()
+    ensures { (M : Machine Place) → UsesOne M → UsesWhatEntered M }
 {}

@@ -4,4 +4,5 @@
 pub mod event;
 pub mod laws;
 pub mod log;
+pub mod reactor;
 pub mod reply;

@@ -2,6 +2,8 @@
 
 use crate::event::Event;
 use crate::reply::Reply;
+use hh_base::value::NoMemory;
+use std::alloc::Global;
 use std::marker::Model;
 
 /// An event and the reply to it.
@@ -27,9 +29,10 @@ impl Model for Log {
 }
 
 impl Log {
-    ghost use Rattle.std.specs.Prelude.{◌≡◌, []};
+    ghost use Rattle.std.specs.Prelude.{◌≡◌, ◌++◌, ◌∷◌, [], OnOk, OnErr};
 
-    pub fn new(alloc: std::alloc::Global) -> Log
+    /// No entry.
+    pub fn new(alloc: Global) -> Log
         ensures { result ≡ [] }
     {
         Log {
@@ -37,6 +40,23 @@ impl Log {
         }
     }
 
+    /// Adds an entry at the end.
+    pub fn push(&mut self, entry: Entry) -> Result<(), NoMemory>
+        ensures ok { OnOk result (self.new ≡ self.old ++ entry ∷ []) }
+        ensures err { OnErr result (self.new ≡ self.old) }
+    {
+        self.entries.push(entry)?;
+        Ok(())
+    }
+
+    /// Lets all entries go.
+    pub fn clear(&mut self)
+        ensures { self.new ≡ [] }
+    {
+        self.entries.clear();
+    }
+
+    /// The entries, from the first on.
     pub fn entries(&self) -> &[Entry]
         ensures { result.now ≡ self.now }
     {

@@ -1,0 +1,7 @@
+pub mod Tracking
+pub mod Fairness
+pub mod Numbering
+pub mod Touched
+pub mod Reactions
+pub mod Queues
+pub mod Standing

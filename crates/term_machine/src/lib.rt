@@ -1,0 +1,4 @@
+//! The machine on terms: its step is the constructive semantics.
+#![tactic(auto)]
+
+pub mod laws;
