@@ -28,3 +28,6 @@ pub mod GoodParts
 pub mod GoodRuns
 pub mod GoodTrees
 pub mod GoodModules
+pub mod NamedTrees
+pub mod Accepted
+pub mod ProgramRules

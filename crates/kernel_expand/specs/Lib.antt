@@ -10,3 +10,4 @@ pub mod Expansion
 pub mod Weighed
 pub mod Forms
 pub mod Refusals
+pub mod Lawful

@@ -4,6 +4,7 @@
 mod blocks;
 pub mod fault;
 mod forms;
+pub mod laws;
 mod loops;
 pub mod measure;
 mod rows;
