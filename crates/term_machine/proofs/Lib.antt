@@ -5,3 +5,4 @@ pub mod Touched
 pub mod Reactions
 pub mod Queues
 pub mod Standing
+pub mod Rows
