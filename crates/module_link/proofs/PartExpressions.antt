@@ -28,7 +28,7 @@ use Rattle.link_faults.specs.SourceKinds.{Kinds, judged_source, unless_kind, wro
 use Rattle.link_faults.specs.Rows.{Program, kinds_in, no_kinds}
 use Rattle.module_link.specs.Resolved.{resolved, resolved_name, resolved_expr, signal_place}
 use Rattle.module_link.proofs.Lists.{nothing_first, get_of_map}
-use Rattle.module_link.proofs.Expressions.{AllMean, Kinded, expressions_resolved}
+use Rattle.module_link.proofs.ResolvedExpressions.{AllMean, Kinded, expressions_resolved}
 use Rattle.module_link.proofs.ScopePlaces.{IsPlaced, signals_of, locals_in}
 use Rattle.module_link.proofs.Meanings.{MeansSignal, signal_meant}
 use Rattle.module_link.proofs.ResolvedParts.{resolved_in}

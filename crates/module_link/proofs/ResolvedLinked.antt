@@ -31,7 +31,7 @@ use Rattle.link_faults.specs.FirstFault.{IsFaultless}
 use Rattle.module_link.specs.Resolved.{resolved_part, resolved_parts, resolved_module, resolved_expr, or_first}
 use Rattle.module_link.proofs.Lists.{append_empty, all_tests, all_of_map, all_weaker, all_both, flat_map_empty}
 use Rattle.module_link.proofs.Lists.{tests_all, get_of_map}
-use Rattle.module_link.proofs.Expressions.{AllMean}
+use Rattle.module_link.proofs.ResolvedExpressions.{AllMean}
 use Rattle.module_link.proofs.Distinct.{place_found, no_name_twice}
 use Rattle.module_link.proofs.Meanings.{all_known, none_known, is_there, nothing_here}
 use Rattle.module_link.proofs.Bound.{true_from_not}
