@@ -5,3 +5,5 @@ pub mod JudgementLaws
 pub mod TableLaws
 pub mod TextLaws
 pub mod RunLaws
+pub mod MeantLaws
+pub mod WalkLaws

@@ -1,6 +1,6 @@
 -- Arguments, bindings and the signals of an interface, one more at a time.
 use Rattle.std.proofs.Common.{◌≡◌, ℕ, ◌+◌, ◌<◌, ◌≤◌, ◌||◌, Bool, true, false, not, cond, Option, Some, None, List, []}
-use Rattle.std.proofs.Common.{◌∷◌, ◌++◌, length, map, take, drop, get_or, refl, sym, ◌∙◌, ap, subst, arith, append_assoc}
+use Rattle.std.proofs.Common.{◌∷◌, ◌++◌, length, map, take, drop, get_or, refl, sym, ◌∙◌, ap, subst, arith, append_assoc, zero, suc}
 use Rattle.std.proofs.Common.{length-append, drop-cons, add-one}
 use Rattle.std.specs.Prelude.{option_map, slice_get, filter, is_some}
 use Rattle.std.specs.List.{find}
@@ -205,3 +205,13 @@ unbound_more meant p bindings xs d =
         → first_by f (filter (is_unbound bindings) (unless a s)) ≡ cond (a || b) None (f s)
     by true b e = refl
     by false b e = ap (λ t. first_by f (cond t (s ∷ []) [])) e ∙ kept b
+
+pub item_mapped : {A B : Type 0} (f : A → B) (xs : List A) (p : Option ℕ)
+    → option_map f (item_at xs p) ≡ item_at (map f xs) p
+item_mapped {A} {B} f xs None = refl
+item_mapped {A} {B} f xs (Some p) = by xs p
+  where
+    by : (ys : List A) (n : ℕ) → option_map f (slice_get ys n) ≡ slice_get (map f ys) n
+    by [] n = refl
+    by (y ∷ ys) zero = refl
+    by (y ∷ ys) (suc n) = by ys n

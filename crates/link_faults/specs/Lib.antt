@@ -11,3 +11,5 @@ pub mod PartFaults
 pub mod NameTables
 pub mod CallableTables
 pub mod RunFaults
+pub mod TextTables
+pub mod Walks

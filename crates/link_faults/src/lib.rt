@@ -10,3 +10,4 @@ pub mod runs;
 pub mod scope;
 pub mod table;
 pub mod text;
+pub mod walk;

@@ -2,15 +2,21 @@
 
 ghost use Rattle.std.specs.Prelude.{◌≡◌, List, [], ◌∷◌, ◌++◌, map, IfOk, OnOk};
 ghost use Rattle.module_tree.specs.Callables.{Signature as ASignature, modules_of, signatures_of};
-ghost use Rattle.link_faults.specs.CallableTables.{AreCallables};
+ghost use Rattle.std.specs.Prelude.{option_map};
+ghost use Rattle.std.specs.Option.{option_copied};
+ghost use Rattle.link_faults.specs.declared.fault.LinkKind.TheVariants.{TwiceDeclared as ATwice};
+ghost use Rattle.link_faults.specs.Named.{module_named, signature_named};
+ghost use Rattle.link_faults.specs.NameTables.{IsTable};
+ghost use Rattle.link_faults.specs.CallableTables.{AreCallables, callable};
+ghost use Rattle.link_faults.specs.TextTables.{IsText, name_of_module};
 
 use crate::fault::LinkKind;
 use crate::table::Table;
 use hh_base::memory::NoMemory;
 use hh_base::name::Name;
 use hh_base::value::{Kind, Pos};
-use module_tree::source::{ModuleNode, ParameterNode, Part};
-use sqlite_items::Items;
+use module_tree::source::{InterfaceNode, ModuleNode, ParameterNode, Part};
+use sqlite_items::{Items, at};
 use std::alloc::Global;
 
 fn push_module<'a>(
@@ -131,4 +137,64 @@ pub fn callables_of(alloc: Global, parts: &[Part<Name>]) -> Result<Callables, No
         callables.add_part(alloc, part)?;
     }
     Ok(callables)
+}
+
+/// The declarations of a text, its modules, and the places of their names.
+#[derive(Drop)]
+pub struct Text<'a> {
+    pub parts: &'a [Part<Name>],
+    pub modules: Vec<&'a ModuleNode<Name>>,
+    pub names: Table,
+    pub callables: Callables,
+}
+
+fn names_of(alloc: Global, modules: &[&ModuleNode<Name>]) -> Result<Table, NoMemory>
+    ensures { IfOk result (IsTable ATwice (map (λ m. name_of_module m.now) modules.now)) }
+{
+    let mut names = Table::new(alloc, LinkKind::TwiceDeclared);
+    'modules: for place in 0..modules.len() {
+        names.declare(alloc, modules[place].pos, &modules[place].name, place)?;
+    }
+    Ok(names)
+}
+
+/// What is declared in a text.
+pub fn text_of(alloc: Global, parts: &[Part<Name>]) -> Result<Text<'_>, NoMemory>
+    ensures text { IfOk result (λ t. IsText t) }
+    ensures parts { IfOk result (λ t. t.parts.now ≡ parts.now) }
+{
+    let modules = modules_of(alloc, parts)?;
+    let names = names_of(alloc, modules.as_slice())?;
+    Ok(Text {
+        parts,
+        modules,
+        names,
+        callables: callables_of(alloc, parts)?,
+    })
+}
+
+/// The interface of the module that the name means.
+pub fn interface_of<'a>(text: &Text<'a>, name: &Name) -> Option<&'a [InterfaceNode]>
+    requires { IsText text.now }
+    ensures { option_copied result ≡ option_map (λ m. m.interface) (module_named text.now.parts.now
+        name.now) }
+{
+    match text.names.place(name) {
+        None => None,
+        Some(place) => match at(text.modules.as_slice(), place) {
+            None => None,
+            Some(module) => Some(module.interface.as_slice()),
+        },
+    }
+}
+
+/// What the body or host takes and answers that the name means.
+pub fn callable_of<'a>(text: &'a Text<'_>, name: &Name) -> Option<&'a Callable>
+    requires { IsText text.now }
+    ensures { option_copied result ≡ option_map callable (signature_named text.now.parts.now name.now) }
+{
+    match text.callables.names.place(name) {
+        None => None,
+        Some(place) => at(text.callables.all.as_slice(), place),
+    }
 }
