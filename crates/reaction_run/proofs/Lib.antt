@@ -7,3 +7,4 @@ pub mod Events
 pub mod Stages
 pub mod Using
 pub mod Runs
+pub mod Pairs

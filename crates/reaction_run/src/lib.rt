@@ -2,6 +2,7 @@
 #![tactic(auto)]
 
 pub mod event;
+pub mod interface;
 pub mod laws;
 pub mod log;
 pub mod reactor;
