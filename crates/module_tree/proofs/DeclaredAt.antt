@@ -1,6 +1,6 @@
 -- Declarations of one position have the same name, or none of them has one.
 use Rattle.std.proofs.Common.{◌≡◌, List, sym, subst, ap, ◌∙◌}
-use Rattle.std.specs.List.{All, Contains}
+use Rattle.std.specs.List.{Contains}
 use Rattle.std.proofs.lemmas.List.Elements.{All-from_recursion}
 use Rattle.module_tree.specs.declared.source.Part.{Part}
 use Rattle.module_tree.specs.DeclaredAt.{DeclaredAt, declared_in, NamesGoByPosition}
