@@ -13,3 +13,21 @@ pub mod RenamedSizes
 pub mod Weighing
 pub mod Measured
 mod Expansions
+pub mod Replaced
+pub mod Reading
+pub mod Ordering
+pub mod Lasts
+pub mod Earlier
+pub mod Standing
+pub mod Sound
+pub mod Good
+pub mod GoodNames
+pub mod GoodSites
+pub mod GoodRows
+pub mod GoodParts
+pub mod GoodRuns
+pub mod GoodTrees
+pub mod GoodModules
+pub mod NamedTrees
+pub mod Accepted
+pub mod ProgramRules

@@ -8,3 +8,6 @@ pub mod Renaming
 pub mod Numbering
 pub mod Expansion
 pub mod Weighed
+pub mod Forms
+pub mod Refusals
+pub mod Lawful

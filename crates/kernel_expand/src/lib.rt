@@ -2,9 +2,12 @@
 #![tactic(auto)]
 
 mod blocks;
+pub mod fault;
+mod forms;
+pub mod laws;
+mod loops;
 pub mod measure;
 mod rows;
 pub mod sizes;
-#[cfg(test)]
-mod tests;
+mod terms;
 mod weights;

@@ -1,8 +1,10 @@
-//! Tests of the calls that play a program: expressions, combinations, reactions, and the texts of the first language.
+//! Tests of the calls that play a program: expressions, combinations, reactions, sizes of expansions, and the texts of the first language.
 #![tactic(auto)]
 
 #[cfg(test)]
 mod combinations;
+#[cfg(test)]
+mod expansion_sizes;
 #[cfg(test)]
 mod expressions;
 #[cfg(test)]

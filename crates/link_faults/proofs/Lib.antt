@@ -1,1 +1,9 @@
 pub mod ScopeLemmas
+pub mod EarlierLaws
+pub mod VerdictLaw
+pub mod JudgementLaws
+pub mod TableLaws
+pub mod TextLaws
+pub mod RunLaws
+pub mod MeantLaws
+pub mod WalkLaws

@@ -1,6 +1,15 @@
 pub mod Faults
+pub mod Earliest
 pub mod Named
 pub mod SourceKinds
 pub mod Rows
 pub mod FirstFault
 pub mod InnermostFirst
+pub mod Meanings
+pub mod Judgements
+pub mod PartFaults
+pub mod NameTables
+pub mod CallableTables
+pub mod RunFaults
+pub mod TextTables
+pub mod Walks

@@ -3,4 +3,11 @@
 #![tactic(auto)]
 
 pub mod fault;
+pub mod judge;
+pub mod names;
+pub mod parts;
+pub mod runs;
 pub mod scope;
+pub mod table;
+pub mod text;
+pub mod walk;

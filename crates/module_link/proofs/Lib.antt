@@ -1,0 +1,17 @@
+pub mod Lists
+pub mod FirstPlaces
+pub mod ResolvedParts
+pub mod SourceWalks
+pub mod ResolvedExpressions
+pub mod ScopePlaces
+pub mod Faultless
+pub mod SameDeclarations
+pub mod NamesByPosition
+pub mod Meanings
+pub mod ShownPlaces
+pub mod Distinct
+pub mod Bound
+pub mod PartExpressions
+pub mod RunParts
+pub mod PartFields
+pub mod ResolvedLinked

@@ -32,7 +32,7 @@ use Rattle.module_tree.specs.Scopes.{Signal, TrapName, InScope, Declared, interf
 use Rattle.module_tree.specs.Scopes.{with_trap}
 use Rattle.module_tree.specs.Callables.{Signature, signatures_of}
 use Rattle.link_faults.specs.Named.{Name, signal_named, trap_named, module_named, place_of}
-use Rattle.link_faults.specs.Rows.{Program, interface_of, module_place}
+use Rattle.link_faults.specs.Rows.{Program, module_place}
 
 abbrev pub or_first : Option ℕ → ℕ
 or_first None = 0
@@ -116,7 +116,7 @@ abbrev pub resolved_bindings : InScope → Pos → List (Binding Name) → Optio
     → List (Binding ℕ)
 resolved_bindings scope p written None = []
 resolved_bindings scope p written (Some m) = map (λ (s : Signal). resolved_binding scope p s
-    (find (λ (b : Binding Name). bytes_eq b.left.name s.signal.name) written)) (interface_of m)
+    (find (λ (b : Binding Name). bytes_eq b.left.name s.signal.name) written)) (interface_signals m.interface)
 
 -- ---- statements
 
@@ -210,6 +210,17 @@ resolved_block parts = fold-BlockNode Name (Resolve (Statement ℕ)) (Resolve (B
 
 -- ---- texts
 
+abbrev pub resolved_module : Program → ModuleNode Name → ModuleNode ℕ
+resolved_module parts m =
+    record {
+      pos = m.pos;
+      name = m.name;
+      interface = m.interface;
+      block =
+          (resolved_block parts m.block (record { signals = interface_signals m.interface; traps = [] })
+          (record { signals = length m.interface; traps = 0 })).tree;
+    }
+
 abbrev pub resolved_part : Program → Part Name → Part ℕ
 resolved_part parts (top.Body b) =
     top.Body (record {
@@ -225,15 +236,7 @@ resolved_part parts (top.Body b) =
           };
     })
 resolved_part parts (top.Host h) = top.Host h
-resolved_part parts (top.Module m) =
-    top.Module (record {
-      pos = m.pos;
-      name = m.name;
-      interface = m.interface;
-      block =
-          (resolved_block parts m.block (record { signals = interface_signals m.interface; traps = [] })
-          (record { signals = length m.interface; traps = 0 })).tree;
-    })
+resolved_part parts (top.Module m) = top.Module (resolved_module parts m)
 
 -- the tree of the text with its names resolved
 abbrev pub resolved_parts : Program → List (Part ℕ)

@@ -27,7 +27,8 @@ use Rattle.expression_reader.specs.Rules as eg
 use Rattle.module_reader.specs.Rules as g
 use Rattle.expression_reader.specs.Rules.{is_quoted, is_number, largest}
 use Rattle.module_reader.specs.Reference as p
-use Rattle.expression_reader.proofs.TokenRules.{Rule, good_keyword, good_punct, good_name, good_quoted, good_number}
+use Rattle.expression_reader.proofs.TokenRules.{Rule, good_keyword, good_punct, good_name, good_quoted}
+use Rattle.expression_reader.proofs.TokenRules.{good_number}
 use Rattle.expression_reader.proofs.PartRules.{good_optional}
 
 abbrev pub begins_valued : Terminal → Bool

@@ -22,7 +22,8 @@ use Rattle.expression_reader.specs.Rules.{is_number}
 use Rattle.module_reader.specs.Reference as p
 use Rattle.expression_reader.proofs.TokenRules.{Out, good_keyword, good_punct, good_number}
 use Rattle.expression_reader.proofs.PartRules.{good_in_round}
-use Rattle.expression_reader.proofs.ExpressionRules.{behind_expression, good_outermost, sample_outermost, good_test}
+use Rattle.expression_reader.proofs.ExpressionRules.{behind_expression, good_outermost, sample_outermost}
+use Rattle.expression_reader.proofs.ExpressionRules.{good_test}
 
 abbrev pub begins_plain : Terminal → Bool
 begins_plain a = is_punct k.LeftParen a || is_keyword w.Count a

@@ -6,5 +6,6 @@ pub mod Items
 pub mod Texts
 pub mod written
 pub mod RealTokens
+pub mod named
 pub mod ReadTexts
 pub mod Closings

@@ -1,5 +1,6 @@
 -- What `read` promises, from what its parts do.
-use Rattle.std.proofs.Common.{◌≡◌, ◌≢◌, ℕ, true, false, List, map, length, Some, None, Result, Ok, Err, option_map, refl, sym, ap, subst, ◌∙◌, inl, inr}
+use Rattle.std.proofs.Common.{◌≡◌, ◌≢◌, ℕ, true, false, List, map, length, Some, None, Result, Ok, Err}
+use Rattle.std.proofs.Common.{option_map, refl, sym, ap, subst, ◌∙◌, inl, inr}
 use Rattle.module_reader.specs.declared.fault.GrammarFault.{GrammarFault}
 use Rattle.module_reader.specs.declared.fault.GrammarFaultKind.{GrammarFaultKind}
 use Rattle.module_reader.specs.declared.fault.GrammarFaultKind.TheVariants as k
@@ -8,6 +9,7 @@ use Rattle.module_token.specs.Tokens as token
 use Rattle.module_token.specs.Tokens.{HasTokens}
 use Rattle.module_tree.specs.declared.source.Part.{Part}
 use Rattle.module_tree.specs.Source.{is_source}
+use Rattle.module_tree.specs.DeclaredAt.{NamesGoByPosition}
 use Rattle.grammar.specs.Tokens.{Tok}
 use Rattle.grammar.specs.Fault.{Fault, Refusal, Unexpected, EndOfText, Deep, Large, OutOfRange}
 use Rattle.grammar.specs.Parser.{Exact, start, whole}
@@ -23,10 +25,12 @@ use Rattle.expression_reader.specs.Rules.{largest}
 use Rattle.module_reader.specs.Reference as p
 use Rattle.expression_reader.specs.Refusals.{as_refusal}
 use Rattle.module_reader.specs.Refusals.{as_fault}
-use Rattle.module_reader.specs.Reading.{to_grammar, refusal_of, HasTree, IsGrammarFault, IsFirstFault, IsByRule}
+use Rattle.module_reader.specs.Reading.{to_grammar, refusal_of, HasTree, IsGrammarFault, IsFirstFault}
+use Rattle.module_reader.specs.Reading.{IsByRule}
 use Rattle.module_reader.proofs.Texts.{is_found, is_read_tops, is_first, is_first_tops, is_text}
 use Rattle.module_reader.proofs.RealTokens.{all_lawful}
 use Rattle.module_reader.proofs.written.Texts.{written}
+use Rattle.module_reader.proofs.named.Texts.{names_go_by_position}
 
 module _ (size : ℕ) (ts : List (Tok Terminal)) where
   -- what was read of the tokens
@@ -84,6 +88,10 @@ module _ (text : List ℕ) (tokens : List token.TextToken) (found : HasTokens te
   pub is_source_tree : (tree : List (Part Name)) → has_module tree ≡ true
       → Exact as_refusal (whole (p.parts 128) (start ts (length text))) (Ok tree) → is_source tree ≡ true
   is_source_tree tree m x = written tree (map to_grammar tokens) (all_lawful found) (spells_tree tree m x)
+
+  pub names_by_position : (tree : List (Part Name)) → has_module tree ≡ true
+      → Exact as_refusal (whole (p.parts 128) (start ts (length text))) (Ok tree) → NamesGoByPosition tree
+  names_by_position tree m x = names_go_by_position (has_tree tree m x)
 
   -- a fault of the grammar is the text's
   of_refusal : (e : StepError) → Exact as_refusal (whole (p.parts 128) (start ts (length text))) (Err e)

@@ -1,5 +1,6 @@
 -- Each rule of statements is read as its language, by how blocks are.
-use Rattle.std.proofs.Common.{◌≡◌, ◌<◌, ℕ, zero, suc, Bool, true, false, [], ◌∷◌, Option, Some, refl, sym, subst, arith}
+use Rattle.std.proofs.Common.{◌≡◌, ◌<◌, ℕ, zero, suc, Bool, true, false, [], ◌∷◌, Option, Some, refl, sym}
+use Rattle.std.proofs.Common.{subst, arith}
 use Rattle.std.specs.Prelude.{◌||◌}
 use Rattle.hh_base.specs.declared.keyword.Keyword.{Keyword}
 use Rattle.hh_base.specs.declared.keyword.Keyword.TheVariants as w
@@ -13,7 +14,8 @@ use Rattle.grammar.specs.Language as l
 use Rattle.grammar.specs.Parser.{Unread, ◌>>=◌, pure, many, kind, if_next, sees, too_deep}
 use Rattle.grammar.proofs.Bundle.{Level, Sample}
 use Rattle.grammar.proofs.Levels.{outer_level}
-use Rattle.grammar.proofs.Sequences.{good_seq, good_then, good_pure, sample_seq, sample_none, sample_pure, sample_token, sample_right}
+use Rattle.grammar.proofs.Sequences.{good_seq, good_then, good_pure, sample_seq, sample_none, sample_pure}
+use Rattle.grammar.proofs.Sequences.{sample_token, sample_right}
 use Rattle.grammar.proofs.OneToken.{good_open, good_close}
 use Rattle.grammar.proofs.Choices.{good_or, good_list, good_by, splits}
 use Rattle.grammar.proofs.Combined.{good_made, good_several}
@@ -29,7 +31,8 @@ use Rattle.expression_reader.specs.Rules.{Lang}
 use Rattle.expression_reader.specs.Reference as ep
 use Rattle.module_reader.specs.Reference as p
 use Rattle.expression_reader.specs.Reference.{Parser}
-use Rattle.expression_reader.proofs.TokenRules.{Rule, Out, good_keyword, good_punct, good_name, good_named, good_quoted}
+use Rattle.expression_reader.proofs.TokenRules.{Rule, Out, good_keyword, good_punct, good_name, good_named}
+use Rattle.expression_reader.proofs.TokenRules.{good_quoted}
 use Rattle.expression_reader.proofs.PartRules.{good_optional, good_listed, good_listed_or_none, good_in_round}
 use Rattle.expression_reader.proofs.ExpressionRules.{good_outermost, good_test}
 use Rattle.module_reader.proofs.DeclarationRules.{behind_signal, good_signal}

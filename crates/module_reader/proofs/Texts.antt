@@ -1,5 +1,6 @@
 -- What reading the tokens of a module text gives: its tree, or its first fault, or that it has no module.
-use Rattle.std.proofs.Common.{◌≡◌, ℕ, suc, ◌+◌, true, false, List, [], ◌∷◌, ◌++◌, Option, Some, Result, Ok, Err, refl, subst, ◌∙◌, arith, inr}
+use Rattle.std.proofs.Common.{◌≡◌, ℕ, suc, ◌+◌, true, false, List, [], ◌∷◌, ◌++◌, Option, Some, Result, Ok}
+use Rattle.std.proofs.Common.{Err, refl, subst, ◌∙◌, arith, inr}
 use Rattle.std.specs.Prelude.{IfOk, IfErr}
 use Rattle.std.proofs.lemmas.List.Folds.{list_any-append}
 use Rattle.module_tree.specs.declared.source.Part.{Part}

@@ -29,7 +29,7 @@ use Rattle.module_tree.specs.declared.source.Later.TheVariants as laters
 use Rattle.module_tree.specs.declared.source.Binding.{Binding}
 use Rattle.module_tree.specs.declared.source.Part.{Part}
 use Rattle.module_tree.specs.declared.source.Part.TheVariants as part_of
-use Rattle.grammar.specs.Fault.{Unexpected, OutOfRange}
+use Rattle.grammar.specs.Fault.{Unexpected}
 use Rattle.grammar.specs.Parser as parser
 use Rattle.grammar.specs.Parser.{◌>>=◌, ◌>>◌, pure, if_next, many, closed, take}
 use Rattle.expression_reader.specs.declared.terminal.Terminal.{Terminal}

@@ -8,4 +8,5 @@ pub mod Scopes
 pub mod Parts
 pub mod Callables
 pub mod Runs
+pub mod DeclaredAt
 pub mod LinkedFacts

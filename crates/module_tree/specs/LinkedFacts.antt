@@ -29,11 +29,11 @@ use Rattle.module_tree.specs.declared.source.Part.TheVariants as top
 use Rattle.module_tree.specs.Scopes.{Signal, InScope, signal_at, trap_at}
 use Rattle.module_tree.specs.Parts.{StatementPart, Test, Times, Emission, Locals, Exit, Call, Start, Placed}
 use Rattle.module_tree.specs.Parts.{parts_of, expressions_of, signals_named, parameters_named}
+use Rattle.module_tree.specs.DeclaredAt.{NamesGoByPosition}
 use Rattle.module_tree.specs.Callables.{Signature, modules_of, signatures_of, interfaces_of}
 
 -- ---- what the parts are judged against: the interfaces of all modules, the signatures of all bodies and
--- hosts, and the
--- kinds of the signals of the part's own module, all by their places
+-- hosts, and the kinds of the signals of the part's own module, all by their places
 
 pub record Known : Type 0 where
   pub interfaces : List (List InterfaceNode)
@@ -147,8 +147,7 @@ each_bound test bindings None = false
 each_bound test bindings (Some interface) = each_binding test bindings interface
 
 -- kinds fit: a test is `bool`, and an emission, a first value, a combine word, an argument, a result and a
--- bound signal
--- have the kind of their place
+-- bound signal have the kind of their place
 abbrev pub kinds_fit : Known → StatementPart ℕ → Bool
 kinds_fit known (Test x) = has_kind known.kinds [] kind.Bool x
 kinds_fit known (Emission n value) = emission_fits known.kinds (slice_get known.kinds n.name) value
@@ -270,3 +269,5 @@ pub record IsLinked (parts : List (Part ℕ)) : Type 0 where
   pub forms : list_all is_formed parts ≡ true
   -- no name is declared twice in one place
   pub names : all_names_differ parts ≡ true
+  -- declarations of one position have one name
+  pub names_by_position : NamesGoByPosition parts

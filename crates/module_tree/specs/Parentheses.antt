@@ -1,8 +1,6 @@
--- Where the parentheses of a written expression stand: an operand whose level is looser than its place
--- takes has
--- them. The levels go from the loosest to the tightest, as in C, and operators of one level group to the
--- left.
--- This project's own.
+-- Where the parentheses of a written expression stand: an operand whose level is looser than its place takes
+-- has them. The levels go from the loosest to the tightest, as in C, and operators of one level group to the
+-- left. This project's own.
 use Rattle.std.specs.Prelude.{ℕ, Bool, List, nat_lt, if◌then◌else◌}
 use Rattle.host_expr.specs.declared.expr.Op.{Op}
 use Rattle.host_expr.specs.declared.expr.Op.TheVariants as op

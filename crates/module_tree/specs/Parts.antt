@@ -1,7 +1,6 @@
--- The parts of a module's statements that names and kinds are judged by, in the order of the text, each
--- with what is
--- in scope there. R is a name where the tree is as written, and a place where names are resolved. This
--- project's own.
+-- The parts of a module's statements that names and kinds are judged by, in the order of the text, each with
+-- what is in scope there. R is a name where the tree is as written, and a place where names are resolved.
+-- This project's own.
 use Rattle.std.specs.Prelude.{ℕ, ◌+◌, Option, Some, None, List, [], ◌∷◌, ◌++◌, map, length}
 use Rattle.std.specs.List.{flat_map}
 use Rattle.hh_base.specs.declared.value.Pos.{Pos}

@@ -1,8 +1,6 @@
--- Which module runs which, once names are resolved, and orders in which each module stands behind all that
--- it runs.
--- Where there is such an order of all modules, none reaches itself by runs. (Topological order, as in
--- Knuth, The Art of
--- Computer Programming, vol. 1, 2.2.3.)
+-- Which module runs which, once names are resolved, and orders in which each module stands behind all that it
+-- runs. Where there is such an order of all modules, none reaches itself by runs. (Topological order, as in
+-- Knuth, The Art of Computer Programming, vol. 1, 2.2.3.)
 use Rattle.std.specs.Prelude.{ℕ, ◌==◌, ◌&&◌, Bool, true, List, [], ◌∷◌, map, length, slice_get, Option, Some}
 use Rattle.std.specs.Prelude.{None}
 use Rattle.std.specs.List.{flat_map, list_all, list_any, range_with_len}

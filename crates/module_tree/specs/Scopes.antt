@@ -1,7 +1,6 @@
 -- What is in scope at a place of a module, from the innermost declaration outward. The same in a tree as it
--- is
--- written and in one whose names are resolved, since declarations keep their names. (Block structure, as in
--- Algol 60.)
+-- is written and in one whose names are resolved, since declarations keep their names. (Block structure, as
+-- in Algol 60.)
 use Rattle.std.specs.Prelude.{ℕ, ◌+◌, ◌==◌, Option, List, [], ◌∷◌, ◌++◌}
 use Rattle.std.specs.List.{find}
 use Rattle.hh_base.specs.declared.value.Dir.{Dir}

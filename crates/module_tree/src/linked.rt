@@ -12,12 +12,9 @@ use std::marker::Model;
 ///
 /// A module's place counts the modules of the text in order, and a body's or host's counts both together. A
 /// parameter's is that in its list. A signal's counts the interface of its module, and then the signals of
-/// its
-/// `signal` statements in the order of the text; a trap's counts the traps of its module in that order. The
-/// left
-/// side of a binding is a place in the interface of the module that is run, and the right side one in the
-/// module
-/// that runs it; a run has one binding for each signal of that interface, in its order.
+/// its `signal` statements in the order of the text; a trap's counts the traps of its module in that order.
+/// The left side of a binding is a place in the interface of the module that is run, and the right side one
+/// in the module that runs it; a run has one binding for each signal of that interface, in its order.
 ///
 /// Contracts see the list of its declarations, which keeps `IsLinked`.
 #[derive(Drop)]

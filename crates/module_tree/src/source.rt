@@ -1,10 +1,10 @@
 //! The tree of a module text, as it was written: `R` is a name where it stands in `Modules`, and the number
-//! that
-//! it stands for once names are resolved. Each `pos` is the place of a node's first token, if nothing else
-//! is said.
+//! that it stands for once names are resolved. Each `pos` is the place of a node's first token, if nothing
+//! else is said.
 
 ghost use Rattle.std.specs.Prelude.{◌≡◌, true};
 ghost use Rattle.module_tree.specs.Source.{is_source};
+ghost use Rattle.module_tree.specs.DeclaredAt.{NamesGoByPosition};
 
 use hh_base::name::Name;
 use hh_base::text::Text;
@@ -165,8 +165,8 @@ pub struct AsyncNode<R: Drop> {
 }
 
 /// The tree of a whole module text. Some text within the grammar and its limits has it, but for positions:
-/// this is
-/// `is_source`. Contracts see the list of its declarations.
+/// this is `is_source`. And declarations of one position have one name, as in each text. Contracts see the
+/// list of its declarations.
 #[derive(Drop)]
 pub struct Modules {
     parts: Items<Part<Name>>,
@@ -176,6 +176,7 @@ impl Model for Modules {
     ghost use Rattle.std.specs.Prelude.{List, ℕ, ◌≡◌, true};
     ghost use Rattle.module_tree.specs.declared.source.Part.{Part as ATop};
     ghost use Rattle.module_tree.specs.Source.{is_source};
+    ghost use Rattle.module_tree.specs.DeclaredAt.{NamesGoByPosition};
     ghost use Rattle.std.specs.Coded.{codes};
     ghost use Rattle.hh_base.specs.contracts.name.Name as name;
     ghost use Rattle.host_expr.specs.contracts.expr.ExprNode as node;
@@ -191,13 +192,14 @@ impl Model for Modules {
 
     ghost view = { λ m. m.parts };
 
-    ghost invariant = { λ m. is_source m.parts ≡ true };
+    ghost invariant = { λ m. (is_source m.parts ≡ true) × NamesGoByPosition m.parts };
 }
 
 impl Modules {
     /// Takes no memory.
     pub fn new(parts: Items<Part<Name>>) -> Modules
-        requires { is_source parts ≡ true }
+        requires source { is_source parts ≡ true }
+        requires names { NamesGoByPosition parts }
         ensures { result ≡ parts }
     {
         Modules { parts }
@@ -206,6 +208,7 @@ impl Modules {
     pub fn parts(&self) -> &[Part<Name>]
         ensures parts { result.now ≡ self.now }
         ensures source { is_source self.now ≡ true }
+        ensures names { NamesGoByPosition self.now }
     {
         self.parts.as_slice()
     }

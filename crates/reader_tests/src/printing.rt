@@ -1,10 +1,11 @@
 //! A tree, and the text that is printed of it.
 
-ghost use Rattle.std.specs.Prelude.{◌≡◌, true, IfSome};
+ghost use Rattle.std.specs.Prelude.{◌≡◌, [], ◌∷◌, true, Some, IfSome, codes};
 ghost use Rattle.module_tree.specs.SourceWords.{is_written_name};
 ghost use Rattle.module_tree.specs.SourceForms.{fits_block, fits_interface};
 ghost use Rattle.module_tree.specs.SourceNesting.{nesting_of_block};
 ghost use Rattle.module_tree.specs.Source.{is_source};
+ghost use Rattle.module_tree.specs.DeclaredAt.{declared_signal, declared_in_block, declared_in};
 
 use hh_base::name::Name;
 use hh_base::value::{Dir, Kind, Pos};
@@ -33,6 +34,7 @@ fn is_printed(bytes: Option<Vec<u8>>, text: &str) -> bool {
 fn pause_and_emit(alloc: Global, signal: &str) -> Option<BlockNode<Name>>
     ensures fits { IfSome result (λ b. fits_block b ≡ is_written_name signal.now) }
     ensures flat { IfSome result (λ b. nesting_of_block b ≡ 1) }
+    ensures silent { IfSome result (λ b. declared_in_block b ≡ []) }
 {
     let name = name(alloc, signal)?;
     let emit = Statement::Emit(NameAt { pos: Pos(23), name }, None);
@@ -57,7 +59,9 @@ fn pause_and_emit(alloc: Global, signal: &str) -> Option<BlockNode<Name>>
 
 /// `out SIGNAL`.
 fn output(alloc: Global, signal: &str) -> Option<InterfaceNode>
-    ensures { IfSome result (λ d. fits_interface d ≡ is_written_name signal.now) }
+    ensures fits { IfSome result (λ d. fits_interface d ≡ is_written_name signal.now) }
+    ensures named { IfSome result (λ d. declared_signal d.signal
+        ≡ record { pos = record { 0 = 13 }; name = Some signal.now }) }
 {
     let name = name(alloc, signal)?;
     let signal = SignalNode {
@@ -76,7 +80,9 @@ fn output(alloc: Global, signal: &str) -> Option<InterfaceNode>
 /// `module M(out O) { pause; emit O; }`.
 #[tactic(auto, using(crate::proofs::TestNames::m_is_written, crate::proofs::TestNames::o_is_written))]
 fn one_module(alloc: Global) -> Option<Items<Part<Name>>>
-    ensures { IfSome result (λ parts. is_source parts ≡ true) }
+    ensures source { IfSome result (λ parts. is_source parts ≡ true) }
+    ensures one { IfSome result (λ parts. declared_in parts
+        ≡ record { pos = record { 0 = 13 }; name = Some (codes "O") } ∷ []) }
 {
     let name = name(alloc, "M")?;
     let mut interface = Items::new(alloc);
@@ -93,6 +99,7 @@ fn one_module(alloc: Global) -> Option<Items<Part<Name>>>
     Some(parts)
 }
 
+#[tactic(auto, using(crate::proofs::TestNames::one_has_its_name))]
 fn printed_module(alloc: Global) -> Option<Vec<u8>> {
     let modules = Modules::new(one_module(alloc)?);
     print(alloc, &modules).ok()

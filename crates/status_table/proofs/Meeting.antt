@@ -1,5 +1,5 @@
 -- What a walk meets in the parts of a statement makes what it meets in the whole.
-use Rattle.std.proofs.Common.{◌≡◌, refl, sym, ap, ◌∙◌, subst, ℕ, zero, suc, ◌<◌, Bool, true, false, cond}
+use Rattle.std.proofs.Common.{◌≡◌, ◌≢◌, refl, sym, ap, ◌∙◌, subst, ℕ, zero, suc, ◌<◌, Bool, true, false, cond}
 use Rattle.std.proofs.Common.{◌==◌, ◌&&◌, ◌||◌, Option, Some, None, List, [], ◌∷◌, ◌++◌, ◌⊎◌, inl, inr}
 use Rattle.std.proofs.Common.{⊎_elim, length, set, slice_get, eqb-true, eq-eqb, append-nil, append_assoc}
 use Rattle.std.proofs.lemmas.Bool.{eqb-false}
@@ -24,6 +24,7 @@ use Rattle.status_table.specs.declared.state.Raise.{Raise}
 use Rattle.status_table.specs.declared.state.Pass.{Pass}
 use Rattle.status_table.specs.declared.state.Outer.{Outer}
 use Rattle.status_table.specs.declared.walk.Verdict.TheVariants as verdict
+use Rattle.status_table.specs.Flat.{Cells}
 use Rattle.status_table.specs.Tallies.{Adds, tally_of}
 use Rattle.status_table.specs.Standing.{Pick, ChosenAt, HeldAt}
 use Rattle.status_table.specs.Putting.{PutsChosen, PutsHeld}
@@ -141,28 +142,36 @@ right_none : {A : Type 0} (xs ys : List A) → xs ++ ys ≡ [] → ys ≡ []
 right_none [] ys h = h
 right_none (x ∷ xs) ys h = cc
 
-pub raised_none : (S : Type 0) (P : PutAt) (b : List Raise) → S → Raised S P b b
-raised_none S P b h = record { news = []; is = sym (append-nil b); put = tt; still = λ e. h }
+pub raised_none : (τ : Cells) (S : Type 0) (P : PutAt) (b : List Raise) → S → Raised τ S P b b
+raised_none τ S P b h = record { news = []; is = sym (append-nil b); put = tt; changes = tt; still = λ e. h }
 
-pub raised_weaker : (S S' : Type 0) (P Q : PutAt) (b0 b1 : List Raise) → (S → S') →
-    ((s n : ℕ) (v : Tri × Cell) → P s n v → Q s n v) → Raised S P b0 b1 → Raised S' Q b0 b1
-raised_weaker S S' P Q b0 b1 f g h = record
-    { news = h.news; is = h.is; put = all_weaker P Q g h.news h.put; still = λ e. f (h.still e) }
+pub raised_weaker : (τ : Cells) (S S' : Type 0) (P Q : PutAt) (b0 b1 : List Raise) → (S → S') →
+    ((s n : ℕ) (v : Tri × Cell) → P s n v → Q s n v) → Raised τ S P b0 b1 → Raised τ S' Q b0 b1
+raised_weaker τ S S' P Q b0 b1 f g h = record {
+  news = h.news;
+  is = h.is;
+  put = all_weaker P Q g h.news h.put;
+  changes = h.changes;
+  still = λ e. f
+      (h.still e);
+}
 
-pub raised_both : (S S' : Type 0) (P Q R : PutAt) (b0 b1 b2 : List Raise) →
+pub raised_both : (τ : Cells) (S S' : Type 0) (P Q R : PutAt) (b0 b1 b2 : List Raise) →
     ((s n : ℕ) (v : Tri × Cell) → P s n v → R s n v) → ((s n : ℕ) (v : Tri × Cell) → Q s n v → R s n v) →
-    Raised S P b0 b1 → Raised S' Q b1 b2 → Raised (S × S') R b0 b2
-raised_both S S' P Q R b0 b1 b2 f g h k = record {
+    Raised τ S P b0 b1 → Raised τ S' Q b1 b2 → Raised τ (S × S') R b0 b2
+raised_both τ S S' P Q R b0 b1 b2 f g h k = record {
   news = h.news ++ k.news;
   is = k.is ∙ ap (λ z. z ++ k.news) h.is ∙ append_assoc b0 h.news k.news;
   put = all_both R h.news k.news (all_weaker P R f h.news h.put) (all_weaker Q R g k.news k.put);
+  changes = all_both (λ s n v. v ≢ τ s n) h.news k.news h.changes k.changes;
   still = λ e. (h.still (left_none h.news k.news e), k.still (right_none h.news k.news e));
 }
 
-pub met_weaker : (T : Table) (a : MustCan) (S S' : Type 0) (P Q : PutAt) (end : Option ℕ) (K : List Bool)
-    (b0 b1 : Pass) → (S → S') → ((s n : ℕ) (v : Tri × Cell) → P s n v → Q s n v) → Met T a S P end K b0 b1 →
-    Met T a S' Q end K b0 b1
-met_weaker T a S S' P Q end K b0 b1 f g h =
+pub met_weaker : (T : Table) (τ : Cells) (a : MustCan) (S S' : Type 0) (P Q : PutAt) (end : Option ℕ)
+    (K : List Bool)
+    (b0 b1 : Pass) → (S → S') → ((s n : ℕ) (v : Tri × Cell) → P s n v → Q s n v) → Met T τ a S P end K b0 b1 →
+    Met T τ a S' Q end K b0 b1
+met_weaker T τ a S S' P Q end K b0 b1 f g h =
     record {
       code = h.code;
       codes = h.codes;
@@ -170,31 +179,34 @@ met_weaker T a S S' P Q end K b0 b1 f g h =
       args = h.args;
       tallies = h.tallies;
       raised =
-          raised_weaker S S' P Q b0.raised.items b1.raised.items f g h.raised;
+          raised_weaker τ S S' P Q b0.raised.items b1.raised.items f g h.raised;
     }
 
 -- ---- statements without parts
 
-pub met_leaf : (T : Table) (bag : Bag) (k : ℕ) (P : PutAt) (sure : Bool) (end : Option ℕ) (K : List Bool)
+pub met_leaf : (T : Table) (τ : Cells) (bag : Bag) (k : ℕ) (P : PutAt) (sure : Bool) (end : Option ℕ)
+    (K : List Bool)
     (b0 b1 : Pass) → Counted T (gives bag k (index_of sure)) b0 b1 → end ≡ code_of k sure → Agrees K (only k)
-    → Met T (gives bag k (index_of sure)) (Unit {0}) P end K b0 b1
-met_leaf T bag k P true end K b0 b1 h e g = record {
+    → Met T τ (gives bag k (index_of sure)) (Unit {0}) P end K b0 b1
+met_leaf T τ bag k P true end K b0 b1 h e g = record {
   code = e;
   codes = g;
   signals = h.signals;
   args = h.args;
   tallies = h.tallies;
   raised = subst
-      (λ z. Raised (Unit {0}) P b0.raised.items z) (sym h.raised) (raised_none (Unit {0}) P b0.raised.items tt);
+      (λ z. Raised τ (Unit {0}) P b0.raised.items z) (sym h.raised) (raised_none τ (Unit {0}) P
+      b0.raised.items tt);
 }
-met_leaf T bag k P false end K b0 b1 h e g = record {
+met_leaf T τ bag k P false end K b0 b1 h e g = record {
   code = e;
   codes = g;
   signals = h.signals;
   args = h.args;
   tallies = h.tallies;
   raised = subst
-      (λ z. Raised (Unit {0}) P b0.raised.items z) (sym h.raised) (raised_none (Unit {0}) P b0.raised.items tt);
+      (λ z. Raised τ (Unit {0}) P b0.raised.items z) (sym h.raised) (raised_none τ (Unit {0}) P
+      b0.raised.items tt);
 }
 
 pub counted_none : (T : Table) (k : ℕ) (i : Index) (b : Pass) → Counted T (gives [] k i) b b
@@ -230,16 +242,18 @@ turn_cong : (K K' L L' : CodeSet) → ((c : ℕ) → K c ≡ K' c) → ((c : ℕ
 turn_cong K K' L L' h g c = or_cong (without_end K c) (without_end K' c) (K 0 && L c) (K' 0 && L' c)
     (without_cong K K' h c) (and_cong (K 0) (K' 0) (L c) (L' c) (h 0) (g c))
 
-pub met_sequence : (T : Table) (a : MustCan) (f : Index → MustCan) (SA : Type 0) (SB : Index → Type 0)
+pub met_sequence : (T : Table) (τ : Cells) (a : MustCan) (f : Index → MustCan) (SA : Type 0) (SB : Index →
+    Type 0)
     (PA : PutAt) (PB : Index → PutAt) (c1 c2 : Option ℕ) (K1 K2 K : List Bool) (b0 b1 b2 : Pass) →
-    Met T a SA PA c1 K1 b0 b1 → codes_in K1 0 ≡ true → Met T (f (is_end c1)) (SB (is_end c1)) (PB (is_end c1))
+    Met T τ a SA PA c1 K1 b0 b1 → codes_in K1 0 ≡ true → Met T τ (f (is_end c1)) (SB (is_end c1))
+    (PB (is_end c1))
     c2 K2 b1 b2 → Agrees K (in_turn (codes_in K1) (codes_in K2)) →
-    Met T (sequence a f) (SA × Pick (a.codes 0) (SB (is_end a.code)) (Unit {0}))
+    Met T τ (sequence a f) (SA × Pick (a.codes 0) (SB (is_end a.code)) (Unit {0}))
     (λ s n v. PA s n v ⊎ Pick (a.codes 0) (PB (is_end a.code) s n v) ⊥) (go_on c1 c2) K b0 b2
-met_sequence T a f SA SB PA PB c1 c2 K1 K2 K b0 b1 b2 h e g0 hK =
+met_sequence T τ a f SA SB PA PB c1 c2 K1 K2 K b0 b1 b2 h e g0 hK =
     let ends : a.codes 0 ≡ true = sym (h.codes 0) ∙ e in
-    let g : Met T (f (is_end a.code)) (SB (is_end a.code)) (PB (is_end a.code)) c2 K2 b1 b2 = subst
-    (λ z. Met T (f (is_end z)) (SB (is_end z)) (PB (is_end z)) c2 K2 b1 b2) h.code g0 in
+    let g : Met T τ (f (is_end a.code)) (SB (is_end a.code)) (PB (is_end a.code)) c2 K2 b1 b2 = subst
+    (λ z. Met T τ (f (is_end z)) (SB (is_end z)) (PB (is_end z)) c2 K2 b1 b2) h.code g0 in
     let b = f (is_end a.code) in
     let pick : (P : Type 0) (Q : Type 0) → P → Pick (a.codes 0) P Q = λ P Q x. subst (λ z. Pick z P Q)
     (sym ends) x in
@@ -252,23 +266,24 @@ met_sequence T a f SA SB PA PB c1 c2 K1 K2 K b0 b1 b2 h e g0 hK =
           g.tallies
           (λ s. sym (cells-append s a.must b.must))
           (λ s. sym (ap (λ z. cells_of s (a.can ++ cond z b.can [])) ends ∙ cells-append s a.can b.can));
-      raised = raised_weaker (SA × SB (is_end a.code)) (SA × Pick (a.codes 0) (SB (is_end a.code)) (Unit {0}))
+      raised = raised_weaker τ (SA × SB (is_end a.code)) (SA × Pick (a.codes 0) (SB (is_end a.code))
+          (Unit {0}))
           (λ s n v. PA s n v ⊎ Pick (a.codes 0) (PB (is_end a.code) s n v) ⊥)
           (λ s n v. PA s n v ⊎ Pick (a.codes 0) (PB (is_end a.code) s n v) ⊥) b0.raised.items b2.raised.items
           (λ x. (x.0, pick (SB (is_end a.code)) (Unit {0}) x.1)) (λ s n v x. x)
-          (raised_both SA (SB (is_end a.code)) PA (PB (is_end a.code))
+          (raised_both τ SA (SB (is_end a.code)) PA (PB (is_end a.code))
           (λ s n v. PA s n v ⊎ Pick (a.codes 0) (PB (is_end a.code) s n v) ⊥) b0.raised.items
           b1.raised.items b2.raised.items (λ s n v x. inl x)
           (λ s n v x. inr (pick (PB (is_end a.code) s n v) ⊥ x)) h.raised g.raised);
     }
 
 -- the second part cannot run
-pub met_stop : (T : Table) (a : MustCan) (f : Index → MustCan) (SA : Type 0) (SB : Index → Type 0)
+pub met_stop : (T : Table) (τ : Cells) (a : MustCan) (f : Index → MustCan) (SA : Type 0) (SB : Index → Type 0)
     (PA : PutAt) (PB : Index → PutAt) (c1 : Option ℕ) (K1 : List Bool) (b0 b1 : Pass) →
-    MustWithinCan a → NothingSure (f Possible) → Met T a SA PA c1 K1 b0 b1 → codes_in K1 0 ≡ false →
-    Met T (sequence a f) (SA × Pick (a.codes 0) (SB (is_end a.code)) (Unit {0}))
+    MustWithinCan a → NothingSure (f Possible) → Met T τ a SA PA c1 K1 b0 b1 → codes_in K1 0 ≡ false →
+    Met T τ (sequence a f) (SA × Pick (a.codes 0) (SB (is_end a.code)) (Unit {0}))
     (λ s n v. PA s n v ⊎ Pick (a.codes 0) (PB (is_end a.code) s n v) ⊥) c1 K1 b0 b1
-met_stop T a f SA SB PA PB c1 K1 b0 b1 w q h e =
+met_stop T τ a f SA SB PA PB c1 K1 b0 b1 w q h e =
     let no : a.codes 0 ≡ false = sym (h.codes 0) ∙ e in
     let b = f (is_end a.code) in
     let none : b.must ≡ [] = ap (λ i. (f i).must) (end_known a.code a.codes w.code no) ∙ q.must in
@@ -282,7 +297,7 @@ met_stop T a f SA SB PA PB c1 K1 b0 b1 w q h e =
           append-nil (cells_of s a.must)))
           (λ s. sym (cells-append s a.can (cond (a.codes 0) b.can []) ∙ ap
           (λ z. cells_of s a.can ++ cells_of s (cond z b.can [])) no ∙ append-nil (cells_of s a.can)));
-      raised = raised_weaker SA (SA × Pick (a.codes 0) (SB (is_end a.code)) (Unit {0})) PA
+      raised = raised_weaker τ SA (SA × Pick (a.codes 0) (SB (is_end a.code)) (Unit {0})) PA
           (λ s n v. PA s n v ⊎ Pick (a.codes 0) (PB (is_end a.code) s n v) ⊥) b0.raised.items b1.raised.items
           (λ x. (x, subst (λ z. Pick z (SB (is_end a.code)) (Unit {0})) (sym no) tt)) (λ s n v x. inl x)
           h.raised;
@@ -304,12 +319,13 @@ met_stop T a f SA SB PA PB c1 K1 b0 b1 w q h e =
 
 -- ---- two parts
 
-pub met_parallel : (T : Table) (a b : MustCan) (SA SB : Type 0) (PA PB : PutAt) (c1 c2 : Option ℕ)
+pub met_parallel : (T : Table) (τ : Cells) (a b : MustCan) (SA SB : Type 0) (PA PB : PutAt) (c1 c2 : Option ℕ)
     (K1 K2 K : List Bool) (b0 b1 b2 : Pass) →
-    Met T a SA PA c1 K1 b0 b1 → Met T b SB PB c2 K2 b1 b2 → Agrees K (greater_of (codes_in K1) (codes_in K2))
+    Met T τ a SA PA c1 K1 b0 b1 → Met T τ b SB PB c2 K2 b1 b2 → Agrees K (greater_of (codes_in K1)
+    (codes_in K2))
     →
-    Met T (parallel a b) (SA × SB) (λ s n v. PA s n v ⊎ PB s n v) (greater c1 c2) K b0 b2
-met_parallel T a b SA SB PA PB c1 c2 K1 K2 K b0 b1 b2 h g hK =
+    Met T τ (parallel a b) (SA × SB) (λ s n v. PA s n v ⊎ PB s n v) (greater c1 c2) K b0 b2
+met_parallel T τ a b SA SB PA PB c1 c2 K1 K2 K b0 b1 b2 h g hK =
     record {
       code = ap (λ z. greater z c2) h.code ∙ ap (greater a.code) g.code;
       codes = λ k. hK k ∙ greater_cong (codes_in K1) a.codes (codes_in K2) b.codes h.codes g.codes k;
@@ -317,16 +333,16 @@ met_parallel T a b SA SB PA PB c1 c2 K1 K2 K b0 b1 b2 h g hK =
       args = g.args ∙ h.args;
       tallies = tallied_both T a b (parallel a b) b0.tallies.items b1.tallies.items b2.tallies.items h.tallies
           g.tallies (λ s. sym (cells-append s a.must b.must)) (λ s. sym (cells-append s a.can b.can));
-      raised = raised_both SA SB PA PB (λ s n v. PA s n v ⊎ PB s n v) b0.raised.items b1.raised.items
+      raised = raised_both τ SA SB PA PB (λ s n v. PA s n v ⊎ PB s n v) b0.raised.items b1.raised.items
           b2.raised.items (λ s n v x. inl x) (λ s n v x. inr x) h.raised g.raised;
     }
 
-pub met_one_of : (T : Table) (a b : MustCan) (SA SB : Type 0) (PA PB : PutAt) (c1 c2 : Option ℕ)
+pub met_one_of : (T : Table) (τ : Cells) (a b : MustCan) (SA SB : Type 0) (PA PB : PutAt) (c1 c2 : Option ℕ)
     (K1 K2 K : List Bool) (b0 b1 b2 : Pass) →
-    NothingSure a → NothingSure b → Met T a SA PA c1 K1 b0 b1 → Met T b SB PB c2 K2 b1 b2 → Agrees K
+    NothingSure a → NothingSure b → Met T τ a SA PA c1 K1 b0 b1 → Met T τ b SB PB c2 K2 b1 b2 → Agrees K
     (either (codes_in K1) (codes_in K2)) →
-    Met T (one_of a b) (SA × SB) (λ s n v. PA s n v ⊎ PB s n v) None K b0 b2
-met_one_of T a b SA SB PA PB c1 c2 K1 K2 K b0 b1 b2 qa qb h g hK =
+    Met T τ (one_of a b) (SA × SB) (λ s n v. PA s n v ⊎ PB s n v) None K b0 b2
+met_one_of T τ a b SA SB PA PB c1 c2 K1 K2 K b0 b1 b2 qa qb h g hK =
     record {
       code = refl;
       codes = λ k. hK k ∙ or_cong (codes_in K1 k) (a.codes k) (codes_in K2 k) (b.codes k) (h.codes k)
@@ -336,7 +352,7 @@ met_one_of T a b SA SB PA PB c1 c2 K1 K2 K b0 b1 b2 qa qb h g hK =
       tallies = tallied_both T a b (one_of a b) b0.tallies.items b1.tallies.items b2.tallies.items h.tallies
           g.tallies (λ s. ap (λ z. cells_of s z ++ cells_of s b.must) qa.must ∙ ap (cells_of s) qb.must)
           (λ s. sym (cells-append s a.can b.can));
-      raised = raised_both SA SB PA PB (λ s n v. PA s n v ⊎ PB s n v) b0.raised.items b1.raised.items
+      raised = raised_both τ SA SB PA PB (λ s n v. PA s n v ⊎ PB s n v) b0.raised.items b1.raised.items
           b2.raised.items (λ s n v x. inl x) (λ s n v x. inr x) h.raised g.raised;
     }
 
@@ -345,10 +361,12 @@ lowered_cong K L h zero = or_cong (K 0) (L 0) (K 2) (L 2) (h 0) (h 2)
 lowered_cong K L h (suc zero) = h 1
 lowered_cong K L h (suc (suc c)) = h (suc (suc (suc c)))
 
-pub met_trapped : (T : Table) (a : MustCan) (S : Type 0) (P : PutAt) (c1 : Option ℕ) (K1 K : List Bool)
+pub met_trapped : (T : Table) (τ : Cells) (a : MustCan) (S : Type 0) (P : PutAt) (c1 : Option ℕ)
+    (K1 K : List Bool)
     (b0 b1 : Pass) →
-    Met T a S P c1 K1 b0 b1 → Agrees K (lowered (codes_in K1)) → Met T (trapped a) S P (lower_code c1) K b0 b1
-met_trapped T a S P c1 K1 K b0 b1 h hK = record {
+    Met T τ a S P c1 K1 b0 b1 → Agrees K (lowered (codes_in K1)) → Met T τ (trapped a) S P (lower_code c1) K
+    b0 b1
+met_trapped T τ a S P c1 K1 K b0 b1 h hK = record {
   code = ap lower_code h.code;
   codes = λ k. hK k ∙ lowered_cong (codes_in K1) a.codes h.codes k;
   signals = h.signals;
@@ -371,32 +389,32 @@ verdict_decided : (b : Bool) → cond b verdict.Holds verdict.Fails ≡ verdict.
 verdict_decided true e = cc
 verdict_decided false e = cc
 
-module _ (T : Table) (c1 : Option ℕ) (K1 : List Bool) (b0 b1 : Pass) where
+module _ (T : Table) (τ : Cells) (c1 : Option ℕ) (K1 : List Bool) (b0 b1 : Pass) where
   pub chosen_holds : (x : Cell) (i : Index) (p q : Index → MustCan) (SP SQ : Index → Type 0)
-      (PP PQ : Index → PutAt) → tested x ≡ verdict.Holds → Met T (p i) (SP i) (PP i) c1 K1 b0 b1 → Met T
+      (PP PQ : Index → PutAt) → tested x ≡ verdict.Holds → Met T τ (p i) (SP i) (PP i) c1 K1 b0 b1 → Met T τ
       (chosen x i p q) (ChosenAt x i SP SQ) (λ s n v. PutsChosen x i (λ j. PP j s n v) (λ j. PQ j s n v)) c1
       K1 b0 b1
   chosen_holds cell.Unknown i p q SP SQ PP PQ e h = cc
   chosen_holds (cell.Known u) i p q SP SQ PP PQ e h =
       let t : truth u ≡ true = verdict_holds (truth u) e in
-      subst (λ z. Met T (cond z (p i) (q i)) (Pick z (SP i) (SQ i))
+      subst (λ z. Met T τ (cond z (p i) (q i)) (Pick z (SP i) (SQ i))
       (λ s n v. Pick z (PP i s n v) (PQ i s n v)) c1 K1 b0 b1) (sym t) h
   chosen_holds (cell.Faulted o k) i p q SP SQ PP PQ e h = cc
 
   pub chosen_fails : (x : Cell) (i : Index) (p q : Index → MustCan) (SP SQ : Index → Type 0)
-      (PP PQ : Index → PutAt) → tested x ≡ verdict.Fails → Met T (q i) (SQ i) (PQ i) c1 K1 b0 b1 → Met T
+      (PP PQ : Index → PutAt) → tested x ≡ verdict.Fails → Met T τ (q i) (SQ i) (PQ i) c1 K1 b0 b1 → Met T τ
       (chosen x i p q) (ChosenAt x i SP SQ) (λ s n v. PutsChosen x i (λ j. PP j s n v) (λ j. PQ j s n v)) c1
       K1 b0 b1
   chosen_fails cell.Unknown i p q SP SQ PP PQ e h = cc
   chosen_fails (cell.Known u) i p q SP SQ PP PQ e h =
       let t : truth u ≡ false = verdict_fails (truth u) e in
-      subst (λ z. Met T (cond z (p i) (q i)) (Pick z (SP i) (SQ i))
+      subst (λ z. Met T τ (cond z (p i) (q i)) (Pick z (SP i) (SQ i))
       (λ s n v. Pick z (PP i s n v) (PQ i s n v)) c1 K1 b0 b1) (sym t) h
   chosen_fails (cell.Faulted o k) i p q SP SQ PP PQ e h = h
 
   pub chosen_open : (x : Cell) (i : Index) (p q : Index → MustCan) (SP SQ : Index → Type 0)
-      (PP PQ : Index → PutAt) → tested x ≡ verdict.Undecided → Met T (one_of (p Possible) (q Possible))
-      (SP Possible × SQ Possible) (λ s n v. PP Possible s n v ⊎ PQ Possible s n v) c1 K1 b0 b1 → Met T
+      (PP PQ : Index → PutAt) → tested x ≡ verdict.Undecided → Met T τ (one_of (p Possible) (q Possible))
+      (SP Possible × SQ Possible) (λ s n v. PP Possible s n v ⊎ PQ Possible s n v) c1 K1 b0 b1 → Met T τ
       (chosen x i p q) (ChosenAt x i SP SQ) (λ s n v. PutsChosen x i (λ j. PP j s n v) (λ j. PQ j s n v)) c1
       K1 b0 b1
   chosen_open cell.Unknown i p q SP SQ PP PQ e h = h
@@ -404,28 +422,30 @@ module _ (T : Table) (c1 : Option ℕ) (K1 : List Bool) (b0 b1 : Pass) where
   chosen_open (cell.Faulted o k) i p q SP SQ PP PQ e h = cc
 
   pub held_holds : (x : Cell) (i : Index) (p : Index → MustCan) (SP : Index → Type 0) (PP : Index → PutAt) →
-      tested x ≡ verdict.Holds → Met T (gives [] 1 i) (Unit {0}) (λ s n v. ⊥) c1 K1 b0 b1 → Met T (held x i p)
+      tested x ≡ verdict.Holds → Met T τ (gives [] 1 i) (Unit {0}) (λ s n v. ⊥) c1 K1 b0 b1 → Met T τ
+      (held x i p)
       (HeldAt x i SP) (λ s n v. PutsHeld x i (λ j. PP j s n v)) c1 K1 b0 b1
   held_holds cell.Unknown i p SP PP e h = cc
   held_holds (cell.Known u) i p SP PP e h =
       let t : truth u ≡ true = verdict_holds (truth u) e in
-      subst (λ z. Met T (cond z (gives [] 1 i) (p i)) (Pick z (Unit {0}) (SP i))
+      subst (λ z. Met T τ (cond z (gives [] 1 i) (p i)) (Pick z (Unit {0}) (SP i))
       (λ s n v. Pick z ⊥ (PP i s n v)) c1 K1 b0 b1) (sym t) h
   held_holds (cell.Faulted o k) i p SP PP e h = cc
 
   pub held_fails : (x : Cell) (i : Index) (p : Index → MustCan) (SP : Index → Type 0) (PP : Index → PutAt) →
-      tested x ≡ verdict.Fails → Met T (p i) (SP i) (PP i) c1 K1 b0 b1 → Met T (held x i p) (HeldAt x i SP)
+      tested x ≡ verdict.Fails → Met T τ (p i) (SP i) (PP i) c1 K1 b0 b1 → Met T τ (held x i p)
+      (HeldAt x i SP)
       (λ s n v. PutsHeld x i (λ j. PP j s n v)) c1 K1 b0 b1
   held_fails cell.Unknown i p SP PP e h = cc
   held_fails (cell.Known u) i p SP PP e h =
       let t : truth u ≡ false = verdict_fails (truth u) e in
-      subst (λ z. Met T (cond z (gives [] 1 i) (p i)) (Pick z (Unit {0}) (SP i))
+      subst (λ z. Met T τ (cond z (gives [] 1 i) (p i)) (Pick z (Unit {0}) (SP i))
       (λ s n v. Pick z ⊥ (PP i s n v)) c1 K1 b0 b1) (sym t) h
   held_fails (cell.Faulted o k) i p SP PP e h = h
 
   pub held_open : (x : Cell) (i : Index) (p : Index → MustCan) (SP : Index → Type 0) (PP : Index → PutAt) →
-      tested x ≡ verdict.Undecided → Met T (one_of (p Possible) (gives [] 1 Possible))
-      (SP Possible × Unit {0}) (λ s n v. PP Possible s n v ⊎ ⊥) c1 K1 b0 b1 → Met T (held x i p)
+      tested x ≡ verdict.Undecided → Met T τ (one_of (p Possible) (gives [] 1 Possible))
+      (SP Possible × Unit {0}) (λ s n v. PP Possible s n v ⊎ ⊥) c1 K1 b0 b1 → Met T τ (held x i p)
       (HeldAt x i SP) (λ s n v. PutsHeld x i (λ j. PP j s n v)) c1 K1 b0 b1
   held_open cell.Unknown i p SP PP e h = record {
     code = h.code;
@@ -433,7 +453,7 @@ module _ (T : Table) (c1 : Option ℕ) (K1 : List Bool) (b0 b1 : Pass) where
     signals = h.signals;
     args = h.args;
     tallies = h.tallies;
-    raised = raised_weaker (SP Possible × Unit {0}) (SP Possible) (λ s n v. PP Possible s n v ⊎ ⊥)
+    raised = raised_weaker τ (SP Possible × Unit {0}) (SP Possible) (λ s n v. PP Possible s n v ⊎ ⊥)
         (λ s n v. PP Possible s n v) b0.raised.items b1.raised.items (λ z. z.0)
         (λ s n v z. ⊎_elim (λ y. y) (λ y. absurd y) z) h.raised;
   }
@@ -445,14 +465,16 @@ module _ (T : Table) (c1 : Option ℕ) (K1 : List Bool) (b0 b1 : Pass) where
 some_same : {A : Type 0} (x y : A) → Some x ≡ Some y → x ≡ y
 some_same x y e = cc
 
-pub met_hide : (T : Table) (s l : ℕ) (c : SigCell) (a : MustCan) (S : Type 0) (P : PutAt) (end : Option ℕ)
+pub met_hide : (T : Table) (τ : Cells) (s l : ℕ) (c : SigCell) (a : MustCan) (S : Type 0) (P : PutAt)
+    (end : Option ℕ)
     (K : List Bool) (outer : Outer) (b0 b1 b2 b3 : Pass) →
     s < length b0.cells.signals.items → s < length b0.tallies.items →
-    Entered s c outer b0 b1 → Met T a S P end K b1 b2 → Left (T.kind s) s l outer b2 b3 →
-    Met T (hide s a) ((raised T s c a ≡ c) × S)
+    (c.status, c.value) ≡ τ s l → Entered s c outer b0 b1 → Met T τ a S P end K b1 b2 → Left (T.kind s) s l
+    outer b2 b3 →
+    Met T τ (hide s a) ((raised T s c a ≡ c) × S)
     (λ r n v. ((r ≡ s) × (n ≡ l) × (v ≡ ((raised T s c a).status, (raised T s c a).value))) ⊎ P r n v) end
     K b0 b3
-met_hide T s l c a S P end K outer b0 b1 b2 b3 ls lt en h le =
+met_hide T τ s l c a S P end K outer b0 b1 b2 b3 ls lt tab en h le =
     record {
       code = h.code;
       codes = h.codes;
@@ -525,8 +547,8 @@ met_hide T s l c a S P end K outer b0 b1 b2 b3 ls lt en h le =
         ⊎ ((r : Raise) × (b3.raised.items ≡ b2.raised.items ++ r ∷ []) × (r.signal ≡ s) × (r.level ≡ l) ×
         (r.known.status ≡ status_by (cells_of s a.must) (cells_of s a.can)) ×
         (r.known.value ≡ value_by (T.kind s) (T.word s) le.cell.preval (cells_of s a.must)
-        (cells_of s a.can))) →
-        Raised ((R ≡ c) × S) Q b0.raised.items b3.raised.items
+        (cells_of s a.can)) × (r.known.status ≡ le.cell.status → r.known.value ≡ le.cell.value → ⊥)) →
+        Raised τ ((R ≡ c) × S) Q b0.raised.items b3.raised.items
     at_end (inl x) =
         let st : R.status ≡ c.status = x.1 ∙ ap (λ z. z.status) here in
         let va : R.value ≡ c.value = ap
@@ -536,9 +558,10 @@ met_hide T s l c a S P end K outer b0 b1 b2 b3 ls lt en h le =
         (λ z. let y : SigCell = record { status = z; value = R.value; pre = c.pre; preval = c.preval } in
         y) st ∙ ap (λ z. let y : SigCell = record
         { status = c.status; value = z; pre = c.pre; preval = c.preval } in y) va in
-        subst (λ z. Raised ((R ≡ c) × S) Q z b3.raised.items) en.raised
-        (subst (λ z. Raised ((R ≡ c) × S) Q b1.raised.items z) (sym x.0)
-        (raised_weaker S ((R ≡ c) × S) P Q b1.raised.items b2.raised.items (λ z. (same, z)) (λ r n v z. inr z)
+        subst (λ z. Raised τ ((R ≡ c) × S) Q z b3.raised.items) en.raised
+        (subst (λ z. Raised τ ((R ≡ c) × S) Q b1.raised.items z) (sym x.0)
+        (raised_weaker τ S ((R ≡ c) × S) P Q b1.raised.items b2.raised.items (λ z. (same, z)) (λ r n v z. inr
+        z)
         h.raised))
     at_end (inr x) =
         let r = x.0 in
@@ -547,12 +570,21 @@ met_hide T s l c a S P end K outer b0 b1 b2 b3 ls lt en h le =
         (λ z. value_by (T.kind s) (T.word s) z.preval (cells_of s a.must) (cells_of s a.can)) here in
         let pair : (r.known.status, r.known.value) ≡ (R.status, R.value) = ap (λ z. (z, r.known.value)) st ∙
         ap (λ z. (R.status, z)) va in
-        subst (λ z. Raised ((R ≡ c) × S) Q z b3.raised.items) en.raised
-        (subst (λ z. Raised ((R ≡ c) × S) Q b1.raised.items z) (sym x.1)
+        subst (λ z. Raised τ ((R ≡ c) × S) Q z b3.raised.items) en.raised
+        (subst (λ z. Raised τ ((R ≡ c) × S) Q b1.raised.items z) (sym x.1)
         (record {
           news = h.raised.news ++ r ∷ [];
           is = ap (λ z. z ++ r ∷ []) h.raised.is ∙ append_assoc b1.raised.items h.raised.news (r ∷ []);
           put = all_both Q h.raised.news (r ∷ [])
               (all_weaker P Q (λ r n v z. inr z) h.raised.news h.raised.put) (inl (x.2, x.3, pair), tt);
+          changes = all_both (λ s n v. v ≢ τ s n) h.raised.news (r ∷ []) h.raised.changes (
+            λ e.
+                let same : (r.known.status, r.known.value) ≡ (c.status, c.value) = e ∙ ap (τ r.signal) x.3 ∙
+                ap
+                (λ z. τ z l) x.2 ∙ sym tab in
+                x.6 (ap (λ z. z.0) same ∙ ap (λ z. z.status) (sym here))
+                (ap (λ z. z.1) same ∙ ap (λ z. z.value) (sym here)),
+            tt,
+          );
           still = λ e. let no : r ∷ [] ≡ [] = right_none h.raised.news (r ∷ []) e in cc;
         }))

@@ -156,7 +156,7 @@ cell_trans (cell.Known v) y z h g = let k : CellBelow (cell.Known v) z = subst (
 cell_trans (cell.Faulted o n) y z h g = let k : CellBelow (cell.Faulted o n) z = subst (λ w. CellBelow w z) h
     g in k
 
-signal_trans : (x y z : SigCell) → SignalBelow x y → SignalBelow y z → SignalBelow x z
+pub signal_trans : (x y z : SigCell) → SignalBelow x y → SignalBelow y z → SignalBelow x z
 signal_trans x y z h g = record {
   status = tri_trans x.status y.status z.status h.status g.status;
   value = cell_trans x.value y.value

@@ -1,6 +1,6 @@
 -- Must and Can with one flat table of statuses and values, with a place for each signal and the loop level of
--- its incarnation. (After
--- Berry, The Constructive Semantics of Pure Esterel; the table is this project's own.)
+-- its incarnation. (After Berry, The Constructive Semantics of Pure Esterel; the table is this project's
+-- own.)
 use Rattle.std.specs.Prelude.{ℕ, suc, ◌+◌, Bool, false, [], ◌∷◌}
 use Rattle.hh_base.specs.declared.value.Tri.{Tri}
 use Rattle.hh_base.specs.declared.value.Value.{Value}

@@ -31,8 +31,7 @@ StandingSteps =
     flat_step T τ p 0 0 t E ≡ step T p t E
 
 -- Where rounds over a whole program reach an environment and a table that no round changes, its interface is
--- solved, and the step with
--- the table is the step of the definition.
+-- solved, and the step with the table is the step of the definition.
 abbrev pub ProgramIsSolved : Type 0
 ProgramIsSolved =
     (T : Table) (os : List Outer) (p : Statement) (c : Control) (F : Env) (τ : Cells) → Unique p → Different

@@ -1,6 +1,5 @@
 -- What is kept of the emissions of one signal while a round meets them: how many must and can be, whether all
--- that must be are
--- known, and what their values combine to so far. (This project's own.)
+-- that must be are known, and what their values combine to so far. (This project's own.)
 use Rattle.std.specs.Prelude.{◌≡◌, Bool, true, false, ◌&&◌, ◌||◌, ◌==◌, Option, Some, None, List, [], ◌∷◌}
 use Rattle.std.specs.Prelude.{◌++◌, ℤ, pos, ◌+ℤ◌, length, map, if◌then◌else◌}
 use Rattle.std.specs.Int.{int_min, int_max}

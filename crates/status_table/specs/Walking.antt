@@ -1,5 +1,6 @@
 -- How the values of the code stand for a walk of a round over a statement. (This project's own.)
-use Rattle.std.specs.Prelude.{◌≡◌, ℕ, suc, ◌<◌, Bool, true, false, cond, Option, Some, None, List, [], ◌∷◌}
+use Rattle.std.specs.Prelude.{◌≡◌, ◌≢◌, ℕ, suc, ◌<◌, Bool, true, false, cond, Option, Some, None, List, []}
+use Rattle.std.specs.Prelude.{◌∷◌}
 use Rattle.std.specs.Prelude.{◌++◌, length}
 use Rattle.hh_base.specs.declared.value.Tri.{Tri}
 use Rattle.hh_base.specs.declared.value.Tri.TheVariants.{Unknown}
@@ -97,29 +98,32 @@ abbrev pub first_code : List Item → ℕ
 first_code [] = 1
 first_code (a ∷ as') = answer_code a.last
 
--- the raises met, each one that the round puts; where there is none, the table stands
-pub record Raised (stands : Type 0) (puts : ℕ → ℕ → Tri × Cell → Type 0) (before after : List Raise) : Type 0
+-- the raises met, each one that the round puts and that the table has not; where there is none, the table
+-- stands
+pub record Raised (τ : Cells) (stands : Type 0) (puts : ℕ → ℕ → Tri × Cell → Type 0)
+    (before after : List Raise) : Type 0
   where
     pub news : List Raise
     pub is : after ≡ before ++ news
     pub put : AllPut puts news
+    pub changes : AllPut (λ s n v. v ≢ τ s n) news
     pub still : news ≡ [] → stands
 
 -- a walk met these emissions and codes
-pub record Met (T : Table) (a : MustCan) (stands : Type 0) (puts : ℕ → ℕ → Tri × Cell → Type 0)
+pub record Met (T : Table) (τ : Cells) (a : MustCan) (stands : Type 0) (puts : ℕ → ℕ → Tri × Cell → Type 0)
     (end : Option ℕ) (flags : List Bool) (before after : Pass) : Type 0 where
   pub code : end ≡ a.code
   pub codes : Agrees flags a.codes
   pub signals : after.cells.signals.items ≡ before.cells.signals.items
   pub args : after.cells.args.items ≡ before.cells.args.items
   pub tallies : Tallied T a before.tallies.items after.tallies.items
-  pub raised : Raised stands puts before.raised.items after.raised.items
+  pub raised : Raised τ stands puts before.raised.items after.raised.items
 
 abbrev pub Visited : Table → Cells → Statement → ℕ → ℕ → Task → Bool → Option ℕ → List Bool → Pass → Pass →
     Type 0
 Visited T τ p d l t sure end flags before after =
     let E : Env = env_of before.cells.signals.items in
-    Met T (flat T τ p d l t (index_of sure) E) (Stands T τ p d l t (index_of sure) E)
+    Met T τ (flat T τ p d l t (index_of sure) E) (Stands T τ p d l t (index_of sure) E)
     (λ s n v. Puts T τ p d l t (index_of sure) E s n v) end flags before after
 
 -- a scope was entered: its signal has this cell and no emission so far, and what it had is kept
@@ -139,7 +143,8 @@ Concludes k s l c u before after =
     (w : Option CombineWord) (m d : List Cell) → u ≡ tally_of k w m d →
     ((after ≡ before) × (status_by m d ≡ c.status) × (value_by k w c.preval m d ≡ c.value))
     ⊎ ((r : Raise) × (after ≡ before ++ r ∷ []) × (r.signal ≡ s) × (r.level ≡ l) ×
-    (r.known.status ≡ status_by m d) × (r.known.value ≡ value_by k w c.preval m d))
+    (r.known.status ≡ status_by m d) × (r.known.value ≡ value_by k w c.preval m d) ×
+    (r.known.status ≡ c.status → r.known.value ≡ c.value → ⊥))
 
 -- a scope was left
 pub record Left (k : Kind) (s l : ℕ) (outer : Outer) (before after : Pass) : Type 0 where

@@ -1,6 +1,5 @@
 -- A whole program over a flat table: the interface signals as cells of the environment, and what rounds make
--- of both. (This project's
--- own.)
+-- of both. (This project's own.)
 use Rattle.std.specs.Prelude.{◌≡◌, ℕ, Bool, true, false, ◌==◌, Option, Some, None, List, [], ◌∷◌, ◌⊎◌}
 use Rattle.hh_base.specs.declared.value.Tri.{Tri}
 use Rattle.host_expr.specs.declared.cell.Cell.{Cell}

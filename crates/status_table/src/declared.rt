@@ -7,6 +7,7 @@ ghost use Rattle.hh_term.specs.ProgramView.{kernel_of};
 use hh_base::value::{CombineWord, Kind};
 use hh_term::program::Program;
 
+/// The kind of a signal; one that is not declared is pure.
 pub fn kind_of(program: &Program, signal: u32) -> Kind
     ensures { result ≡ (table_of (kernel_of program.now)).kind signal }
 {
@@ -16,6 +17,7 @@ pub fn kind_of(program: &Program, signal: u32) -> Kind
     }
 }
 
+/// The combine word of a signal.
 pub fn word_of(program: &Program, signal: u32) -> Option<CombineWord>
     ensures { result ≡ (table_of (kernel_of program.now)).word signal }
 {
@@ -25,6 +27,7 @@ pub fn word_of(program: &Program, signal: u32) -> Option<CombineWord>
     }
 }
 
+/// The signal that carries the answers of an async site.
 pub fn target_of(program: &Program, site: u32) -> Option<u32>
     ensures { result ≡ (table_of (kernel_of program.now)).target site }
 {

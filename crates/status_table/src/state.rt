@@ -69,7 +69,7 @@ impl Statuses {
     }
 
     /// The cell of a signal with this previous status and value.
-    fn cell(
+    pub fn cell(
         &self,
         alloc: Global,
         signal: u32,

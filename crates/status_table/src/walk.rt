@@ -102,7 +102,8 @@ fn go_on(first: Option<u16>, second: Option<u16>) -> Option<u16>
     }
 }
 
-fn emission(alloc: Global, value: &Option<Expr<u32>>, cells: &Cells) -> Result<Cell, NoMemory>
+/// What an emission is with: the value of its expression, or the one of pure signals.
+pub fn emission(alloc: Global, value: &Option<Expr<u32>>, cells: &Cells) -> Result<Cell, NoMemory>
     requires { cells.now.args.items ≡ [] }
     ensures { IfOk result (λ c. c ≡ emitted (optional_expression value.now) (env_of cells.now.signals.items)) }
 {

@@ -6,9 +6,11 @@ use Rattle.std.proofs.lemmas.Bool.{le-leb}
 use Rattle.hh_base.specs.declared.value.Kind.{Kind}
 use Rattle.hh_base.specs.declared.value.Kind.TheVariants as kind
 use Rattle.hh_base.specs.declared.value.CombineWord.{CombineWord}
-use Rattle.module_tree.specs.SourceWords.{is_written_name, is_written_integer, is_written_text, is_written_value}
+use Rattle.module_tree.specs.SourceWords.{is_written_name, is_written_integer, is_written_text}
+use Rattle.module_tree.specs.SourceWords.{is_written_value}
 use Rattle.hh_base.specs.Value.{is_valued, is_interface}
-use Rattle.module_tree.specs.SourceForms.{is_filled, if_there, fits_name, fits_signal, fits_interface, fits_parameter, fits_binding}
+use Rattle.module_tree.specs.SourceForms.{is_filled, if_there, fits_name, fits_signal, fits_interface}
+use Rattle.module_tree.specs.SourceForms.{fits_parameter, fits_binding}
 use Rattle.grammar.specs.Language as l
 use Rattle.hh_base.specs.declared.keyword.Keyword.{Keyword}
 use Rattle.hh_base.specs.declared.keyword.Keyword.TheVariants as w
@@ -16,7 +18,8 @@ use Rattle.expression_reader.specs.Trees.{TextAt}
 use Rattle.expression_reader.specs.Rules as eg
 use Rattle.module_reader.specs.Rules as g
 use Rattle.expression_reader.specs.Rules.{Lang}
-use Rattle.expression_reader.proofs.written.Keeping.{Keeps, keeps, keeps_then, keeps_after, keeps_pure, keeps_or, keeps_many, keeps_more}
+use Rattle.expression_reader.proofs.written.Keeping.{Keeps, keeps, keeps_then, keeps_after, keeps_pure}
+use Rattle.expression_reader.proofs.written.Keeping.{keeps_or, keeps_many, keeps_more}
 use Rattle.expression_reader.proofs.written.Nodes.{both}
 use Rattle.expression_reader.proofs.written.Expressions.{tells_name, tells_quoted, tells_number}
 

@@ -8,7 +8,8 @@ use Rattle.module_tree.specs.SourceForms.{fits_expression, fits_later, fits_dela
 use Rattle.module_tree.specs.SourceNesting.{nesting_of_later, nesting_of_delay}
 use Rattle.expression_reader.specs.Trees.{Name}
 use Rattle.module_reader.specs.Rules as g
-use Rattle.expression_reader.proofs.written.Keeping.{Keeps, keeps, keeps_then, keeps_after, keeps_pure, keeps_or}
+use Rattle.expression_reader.proofs.written.Keeping.{Keeps, keeps, keeps_then, keeps_after, keeps_pure}
+use Rattle.expression_reader.proofs.written.Keeping.{keeps_or}
 use Rattle.expression_reader.proofs.written.Nodes.{both}
 use Rattle.expression_reader.proofs.written.Expressions.{tells_number}
 use Rattle.expression_reader.proofs.written.Brackets.{Fits, keeps_round, nesting_at, outermost, tested}

@@ -5,7 +5,10 @@ use Rattle.module_tree.specs.declared.source.BlockNode.{BlockNode}
 use Rattle.module_tree.specs.declared.source.StatementNode.{StatementNode, roll-StatementNode}
 use Rattle.module_tree.specs.declared.source.Statement.{Statement, roll-Statement}
 use Rattle.module_tree.specs.declared.source.Statement.TheOpen as s
-use Rattle.module_tree.specs.declared.source.Statement.TheFolds.{fold-BlockNode, fold-StatementNode, fold-Statement, fold-roll-BlockNode, fold-roll-StatementNode, fold-roll-Statement, map-Statement}
+use Rattle.module_tree.specs.declared.source.Statement.TheFolds.{fold-BlockNode, fold-StatementNode}
+use Rattle.module_tree.specs.declared.source.Statement.TheFolds.{fold-Statement, fold-roll-BlockNode}
+use Rattle.module_tree.specs.declared.source.Statement.TheFolds.{fold-roll-StatementNode, fold-roll-Statement}
+use Rattle.module_tree.specs.declared.source.Statement.TheFolds.{map-Statement}
 use Rattle.expression_reader.specs.Trees.{Name, pos_at}
 use Rattle.module_reader.specs.Trees.{block_at}
 

@@ -1,6 +1,7 @@
 -- What a text has as statements and blocks passes the tests of source trees, in which no more brackets are
 -- open at once than may be.
-use Rattle.std.proofs.Common.{◌≡◌, ℕ, zero, suc, ◌≤◌, true, Bool, List, [], ◌∷◌, map, Option, Some, None, refl, sym, subst, ◌∙◌, arith}
+use Rattle.std.proofs.Common.{◌≡◌, ℕ, zero, suc, ◌≤◌, true, Bool, List, [], ◌∷◌, map, Option, Some, None}
+use Rattle.std.proofs.Common.{refl, sym, subst, ◌∙◌, arith}
 use Rattle.std.specs.Prelude.{IfSome}
 use Rattle.std.specs.List.{AllByRecursion, list_all}
 use Rattle.std.proofs.Math.Nat.{max-le}
@@ -15,7 +16,8 @@ use Rattle.module_tree.specs.declared.source.Statement.{Statement, roll-Statemen
 use Rattle.module_tree.specs.declared.source.Statement.TheVariants as s
 use Rattle.module_tree.specs.declared.source.Statement.TheOpen as layer
 use Rattle.module_tree.specs.SourceForms as tests
-use Rattle.module_tree.specs.SourceForms.{is_filled, if_there, fits_name, fits_expression, fits_signal, fits_binding, fits_block}
+use Rattle.module_tree.specs.SourceForms.{is_filled, if_there, fits_name, fits_expression, fits_signal}
+use Rattle.module_tree.specs.SourceForms.{fits_binding, fits_block}
 use Rattle.module_tree.specs.SourceNesting as nests
 use Rattle.module_tree.specs.SourceNesting.{in_parentheses, largest, nesting_of_value, nesting_of_block}
 use Rattle.hh_base.specs.declared.keyword.Keyword.{Keyword}
@@ -25,11 +27,16 @@ use Rattle.module_reader.specs.Trees.{statement_at, block_at}
 use Rattle.expression_reader.specs.Rules as eg
 use Rattle.module_reader.specs.Rules as g
 use Rattle.expression_reader.specs.Rules.{Lang}
-use Rattle.expression_reader.proofs.written.Keeping.{Keeps, keeps_then, keeps_after, keeps_pure, keeps_or, keeps_many, keeps_more}
-use Rattle.module_reader.proofs.written.Layers.{of_statement_node, of_statement_parts, statement_layer, block_layer}
+use Rattle.expression_reader.proofs.written.Keeping.{Keeps, keeps_then, keeps_after, keeps_pure, keeps_or}
+use Rattle.expression_reader.proofs.written.Keeping.{keeps_many, keeps_more}
+use Rattle.module_reader.proofs.written.Layers.{of_statement_node, of_statement_parts, statement_layer}
+use Rattle.module_reader.proofs.written.Layers.{block_layer}
 use Rattle.expression_reader.proofs.written.Nodes.{both}
-use Rattle.module_reader.proofs.written.Declarations.{all_pass, keeps_if_some, keeps_listed, keeps_listed_or_none, keeps_optional, name, named, signal, binding, handler}
-use Rattle.expression_reader.proofs.written.Brackets.{Fits, keeps_round, all_fit, nesting_at, outermost, tested, value}
+use Rattle.module_reader.proofs.written.Declarations.{all_pass, keeps_if_some, keeps_listed}
+use Rattle.module_reader.proofs.written.Declarations.{keeps_listed_or_none, keeps_optional, name, named}
+use Rattle.module_reader.proofs.written.Declarations.{signal, binding, handler}
+use Rattle.expression_reader.proofs.written.Brackets.{Fits, keeps_round, all_fit, nesting_at, outermost}
+use Rattle.expression_reader.proofs.written.Brackets.{tested, value}
 use Rattle.module_reader.proofs.written.Delays.{plain_delay, any_delay}
 
 abbrev fits_statement : StatementNode Name → Bool

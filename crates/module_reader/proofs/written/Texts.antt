@@ -15,9 +15,11 @@ use Rattle.expression_reader.specs.Trees.{Name}
 use Rattle.module_reader.specs.Rules as g
 use Rattle.module_reader.specs.Rules.{program}
 use Rattle.expression_reader.proofs.Lawful.{Lawful}
-use Rattle.expression_reader.proofs.written.Keeping.{Keeps, keeps_then, keeps_after, keeps_pure, keeps_or, keeps_many}
+use Rattle.expression_reader.proofs.written.Keeping.{Keeps, keeps_then, keeps_after, keeps_pure, keeps_or}
+use Rattle.expression_reader.proofs.written.Keeping.{keeps_many}
 use Rattle.expression_reader.proofs.written.Nodes.{both}
-use Rattle.module_reader.proofs.written.Declarations.{all_pass, keeps_listed_or_none, name, valued, type, interface, parameter}
+use Rattle.module_reader.proofs.written.Declarations.{all_pass, keeps_listed_or_none, name, valued, type}
+use Rattle.module_reader.proofs.written.Declarations.{interface, parameter}
 use Rattle.expression_reader.proofs.written.Brackets.{Fits, keeps_curly, outermost}
 use Rattle.module_reader.proofs.written.Statements.{block}
 

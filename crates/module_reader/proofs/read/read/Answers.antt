@@ -36,13 +36,23 @@ returns-in-Err-clause-by_rule c =
     (λ tokens has. ap (map to_grammar) (sym (c.in-Ok.ensures.only tokens has)) ∙ same)
     c.in-Err.refused c.in-Err.ensures)
 
-pub new-requires : goal.new-requires
-new-requires c =
+pub new-requires-clause-source : goal.new-requires-clause-source
+new-requires-clause-source c =
     let text = c.args.text.now in
     let same = same_tokens text c.in-Ok.tokens.items ∙ ap (cursor.toks text) (sym c.as_slice.ensures.value) in
     let has : has_module c.in-Ok-read_tokens.parts ≡ c.has_module.result =
     ap has_module (sym c.as_slice-in-Ok-read_tokens.ensures) ∙ sym c.has_module.ensures in
     reading.is_source_tree text (place.toks text c.in-Ok.tokens.items) c.in-Ok.ensures.found
+    (cursor.toks text c.as_slice.result.now) same c.in-Ok-read_tokens.parts
+    (has ∙ c.if-has_module.true) c.in-Ok-read_tokens.ensures
+
+pub new-requires-clause-names : goal.new-requires-clause-names
+new-requires-clause-names c =
+    let text = c.args.text.now in
+    let same = same_tokens text c.in-Ok.tokens.items ∙ ap (cursor.toks text) (sym c.as_slice.ensures.value) in
+    let has : has_module c.in-Ok-read_tokens.parts ≡ c.has_module.result =
+    ap has_module (sym c.as_slice-in-Ok-read_tokens.ensures) ∙ sym c.has_module.ensures in
+    reading.names_by_position text (place.toks text c.in-Ok.tokens.items) c.in-Ok.ensures.found
     (cursor.toks text c.as_slice.result.now) same c.in-Ok-read_tokens.parts
     (has ∙ c.if-has_module.true) c.in-Ok-read_tokens.ensures
 

@@ -1,4 +1,5 @@
-use Rattle.std.proofs.Common.{refl, sym, ap, ◌∙◌, set, inl, inr}
+use Rattle.std.proofs.Common.{◌≡◌, refl, sym, ap, ◌∙◌, set, inl, inr, true, false}
+use Rattle.status_table.specs.declared.tally.Known.{Known}
 use Rattle.status_table.proofs.Reading.{read_here}
 use Rattle.status_table.proofs.state.Pass.leave.Goals as goal
 
@@ -22,6 +23,14 @@ returns-in_ok-push c =
         refl,
         c.solved-known.ensures.status w m d e,
         c.solved-known.ensures.value w m d e,
+        λ st va.
+            let known = c.solved-known.result in
+            let cell = c.replace-cell.result in
+            let same : known ≡ record { status = cell.status; value = cell.value } = ap
+            (λ z. let k : Known = record { status = z; value = known.value } in k) st ∙ ap
+            (λ z. let k : Known = record { status = cell.status; value = z } in k) va in
+            let no : false ≡ true = c.if-not-is_same.ensures.1 same in
+            cc,
       );
     }
 

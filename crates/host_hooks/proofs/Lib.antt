@@ -1,0 +1,4 @@
+pub mod Answering
+pub mod Propositions
+pub mod Sameness
+pub mod Tables

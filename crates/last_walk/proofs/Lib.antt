@@ -1,0 +1,5 @@
+pub mod Least
+pub mod Noting
+pub mod Scoping
+pub mod Stopping
+pub mod Instances

@@ -1,0 +1,156 @@
+-- Walks over pieces of a module, one after another.
+use Rattle.std.proofs.Common.{◌≡◌, Bool, true, false, cond, Option, Some, None, List, [], ◌∷◌, ◌++◌, map, refl, sym}
+use Rattle.std.proofs.Common.{◌∙◌, ap, subst, append_assoc}
+use Rattle.std.specs.Prelude.{option_map, slice_get, is_some}
+use Rattle.std.specs.List.{find, flat_map}
+use Rattle.std.specs.Str.{bytes_eq}
+use Rattle.std.proofs.Math.Path.{fun_ext}
+use Rattle.std.proofs.lemmas.List.{append-nil}
+use Rattle.std.proofs.lemmas.List.Concat.{flat_map-append}
+use Rattle.indexmap.specs.IndexMap.{get_by_text}
+use Rattle.module_tree.specs.Scopes.{Signal, TrapName, InScope, Declared}
+use Rattle.module_tree.specs.Parts.{StatementPart, Placed, Walk, here, empty, then}
+use Rattle.module_tree.specs.declared.source.NameAt.{NameAt}
+use Rattle.link_faults.specs.declared.fault.LinkKind.TheVariants as fault
+use Rattle.link_faults.specs.declared.fault.LinkFault.{LinkFault}
+use Rattle.link_faults.specs.declared.names.Meaning.{Meaning}
+use Rattle.link_faults.specs.declared.names.Names.{Names}
+use Rattle.link_faults.specs.declared.scope.Scope.{Scope}
+use Rattle.link_faults.specs.declared.walk.Walker.{Walker}
+use Rattle.link_faults.specs.Faults.{earlier}
+use Rattle.link_faults.specs.Earliest.{first_at, first_by}
+use Rattle.link_faults.specs.Named.{Name, signal_named, trap_named}
+use Rattle.link_faults.specs.InnermostFirst.{Named, IsScope, in_scope, place_in}
+use Rattle.link_faults.specs.SourceKinds.{Kinds}
+use Rattle.link_faults.specs.Rows.{Program, no_kinds, called, here_if}
+use Rattle.link_faults.specs.Meanings.{meaning, meaning_at, meaning_of, meant_in, kind_of_parameter}
+use Rattle.link_faults.specs.PartFaults.{Meanings}
+use Rattle.link_faults.specs.Walks.{first_of_part, first_placed, runs_among, runs_placed, Shown, shown_by}
+use Rattle.link_faults.specs.Walks.{shown_signal, Stands, Passes, Follows}
+use Rattle.link_faults.proofs.EarlierLaws.{earlier_none, earlier_grouped, first_by_joined}
+
+-- ---- what names mean where a walker stands
+
+abbrev head_of : {A : Type 0} → A → List A → A
+head_of d [] = d
+head_of d (x ∷ xs) = x
+
+abbrev tail_of : {A : Type 0} → List A → List A
+tail_of [] = []
+tail_of (x ∷ xs) = xs
+
+looked_up : (names : Names) (ns : List Named) (ss : List Signal) (q : Name)
+    → map (shown_by names.meanings) ns ≡ map shown_signal ss
+    → meaning_at names (place_in ns q) ≡ option_map meaning
+    (find (λ (s : Signal). bytes_eq s.signal.name q) ss)
+looked_up names [] [] q e = refl
+looked_up names [] (s ∷ ss) q e = cc
+looked_up names (n ∷ ns) [] q e = cc
+looked_up names (n ∷ ns) (s ∷ ss) q e =
+    let first : shown_by names.meanings n ≡ shown_signal s = ap (head_of (shown_signal s)) e in
+    ap (λ m. meaning_at names (cond (bytes_eq m q) (Some n.place) (place_in ns q))) (ap (λ x. x.name) first)
+    ∙ by (bytes_eq s.signal.name q) (ap (λ x. x.meaning) first)
+    (looked_up names ns ss q (ap tail_of e))
+  where
+    by : (b : Bool) → slice_get names.meanings n.place ≡ Some (meaning s)
+        → meaning_at names (place_in ns q) ≡ option_map meaning
+        (find (λ (s : Signal). bytes_eq s.signal.name q) ss)
+        → meaning_at names (cond b (Some n.place) (place_in ns q)) ≡ option_map meaning
+        (cond b (Some s) (find (λ (s : Signal). bytes_eq s.signal.name q) ss))
+    by true here rest = here
+    by false here rest = rest
+
+pub meant_where : (scope : InScope) (w : Walker) → Stands scope w → (q : Name)
+    → meaning_of w.names q ≡ meant_in scope q
+meant_where scope w s q = ap (meaning_at w.names) (s.signals.found q)
+    ∙ looked_up w.names (in_scope w.names.signals) scope.signals q s.meant
+
+trap_found : (ns : List Named) (ts : List TrapName) (q : Name)
+    → map (λ (n : Named). n.name) ns ≡ map (λ (t : TrapName). t.name) ts
+    → is_some (place_in ns q) ≡ is_some (find (λ (t : TrapName). bytes_eq t.name q) ts)
+trap_found [] [] q e = refl
+trap_found [] (t ∷ ts) q e = cc
+trap_found (n ∷ ns) [] q e = cc
+trap_found (n ∷ ns) (t ∷ ts) q e =
+    ap (λ m. is_some (cond (bytes_eq m q) (Some n.place) (place_in ns q))) (ap (head_of t.name) e)
+    ∙ by (bytes_eq t.name q) (trap_found ns ts q (ap tail_of e))
+  where
+    by : (b : Bool) → is_some (place_in ns q) ≡ is_some (find (λ (t : TrapName). bytes_eq t.name q) ts)
+        → is_some (cond b (Some n.place) (place_in ns q))
+        ≡ is_some (cond b (Some t) (find (λ (t : TrapName). bytes_eq t.name q) ts))
+    by true rest = refl
+    by false rest = rest
+
+pub trap_where : (scope : InScope) (w : Walker) → Stands scope w → (q : Name)
+    → is_some (get_by_text w.traps.places q) ≡ is_some (trap_named scope q)
+trap_where scope w s q = ap is_some (s.traps.found q)
+    ∙ trap_found (in_scope w.traps) scope.traps q s.named
+
+-- what is found by what names mean
+pub found_where : (find : Meanings → Kinds → Option LinkFault) (scope : InScope) (w : Walker) → Stands scope w
+    → find (meaning_of w.names) (kind_of_parameter w.names) ≡ find (meant_in scope) no_kinds
+found_where find scope w s =
+    ap (λ (m : Meanings). find m (kind_of_parameter w.names)) (fun_ext (meant_where scope w s))
+    ∙ ap (find (meant_in scope)) s.bodiless
+
+-- ---- pieces
+
+pub stands_still : (scope : InScope) (old new : Walker) → new.names ≡ old.names → new.traps ≡ old.traps
+    → Stands scope old → Stands scope new
+stands_still scope old new names traps s = record {
+  signals = subst (λ (n : Names). IsScope n.signals) (sym names) s.signals;
+  meant = subst (λ (n : Names). map (shown_by n.meanings) (in_scope n.signals) ≡ map shown_signal scope.signals)
+      (sym names) s.meant;
+  traps = subst IsScope (sym traps) s.traps;
+  named = subst (λ (t : Scope). map (λ (n : Named). n.name) (in_scope t)
+      ≡ map (λ (t : TrapName). t.name) scope.traps) (sym traps) s.named;
+  bodiless = subst (λ (n : Names). kind_of_parameter n ≡ no_kinds) (sym names) s.bodiless;
+}
+
+pub follows_here : (parts : Program) (part : StatementPart Name) (old new : Walker) → new.names ≡ old.names
+    → new.traps ≡ old.traps → new.runs ≡ old.runs ++ runs_among parts (called part)
+    → ((scope : InScope) → Stands scope old
+    → new.first ≡ earlier old.first (first_of_part parts scope part)) → Follows parts (here part) old new
+follows_here parts part old new names traps runs first = record {
+  passes = λ scope before s. record {
+    stands = stands_still scope old new names traps s;
+    first = first scope s ∙ ap (earlier old.first) (sym (earlier_none (first_of_part parts scope part)));
+    runs = runs ∙ ap (λ rs. old.runs ++ rs) (sym (append-nil (runs_among parts (called part))));
+  };
+}
+
+pub follows_empty : (parts : Program) (w : Walker) → Follows parts empty w w
+follows_empty parts w = record {
+  passes = λ scope before s. record {
+    stands = s;
+    first = sym (earlier_none w.first);
+    runs = sym (append-nil w.runs);
+  };
+}
+
+pub follows_then : (parts : Program) (a b : Walk Name) (old mid new : Walker) → Follows parts a old mid
+    → Follows parts b mid new → Follows parts (then a b) old new
+follows_then parts a b old mid new p q = record { passes = λ scope before s. both scope before s }
+  where
+    both : (scope : InScope) (before : Declared) → Stands scope old
+        → Passes parts scope (then a b scope before).parts old new
+    both scope before s =
+        let one = p.passes scope before s in
+        let xs = (a scope before).parts in
+        let after = (a scope before).after in
+        let ys = (b scope after).parts in
+        let two = q.passes scope after one.stands in
+        record {
+          stands = two.stands;
+          first = two.first ∙ ap (λ o. earlier o (first_by (first_placed parts) ys)) one.first
+              ∙ earlier_grouped old.first (first_by (first_placed parts) xs) (first_by (first_placed parts) ys)
+              ∙ ap (earlier old.first) (sym (first_by_joined (first_placed parts) xs ys));
+          runs = two.runs ∙ ap (λ rs. rs ++ flat_map (runs_placed parts) ys) one.runs
+              ∙ append_assoc old.runs (flat_map (runs_placed parts) xs) (flat_map (runs_placed parts) ys)
+              ∙ ap (λ rs. old.runs ++ rs) (sym (flat_map-append (runs_placed parts) xs ys));
+        }
+
+pub exit_alike : (n : NameAt Name) (b : Bool) → first_at fault.UnknownTrap (here_if b n.pos)
+    ≡ first_at fault.UnknownTrap (map (λ (n : NameAt Name). n.pos) (cond b (n ∷ []) []))
+exit_alike n true = refl
+exit_alike n false = refl

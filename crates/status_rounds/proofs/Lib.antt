@@ -1,0 +1,12 @@
+mod Declared
+mod Places
+mod Unknowns
+mod Interface
+mod Sound
+mod Beginning
+mod Concluding
+mod Giving
+mod Taking
+mod Seeing
+mod Going
+mod Settling
