@@ -171,3 +171,11 @@ refused_then_accepted :
     run_of undecided_call (react [] ∷ react_a (notify 1 5 ∷ []) ∷ react [] ∷ [])
     ≡ tells [] (starts 1 ∷ []) ∷ reply.Causality [] ∷ tells (is 1 5 ∷ []) (ended 1 5 ∷ []) ∷ []
 refused_then_accepted = refl
+
+-- ---- no ids are left above the limit
+
+last_ids :
+    replies constructive (begin constructive (start_of one_call) 18446744073709550591) (react [] ∷ react [] ∷ Reset ∷ react [] ∷ [])
+    ≡ tells [] (starts 18446744073709550592 ∷ []) ∷ reply.Worn 18446744073709550592 ∷ reply.Reset (kills 18446744073709550592 ∷ [])
+    ∷ reply.Worn 18446744073709550592 ∷ []
+last_ids = refl
