@@ -1,5 +1,5 @@
 -- The least position of two lists.
-use Rattle.std.proofs.Common.{◌≡◌, ℕ, min, List, [], ◌∷◌, ◌++◌, Option, Some, None, refl, sym, ap, ◌∙◌, arith}
+use Rattle.std.proofs.Common.{◌≡◌, ℕ, min, List, [], ◌∷◌, ◌++◌, Option, Some, None, refl, ap, ◌∙◌, arith}
 use Rattle.hh_base.specs.declared.value.Pos.{Pos}
 use Rattle.kernel_expand.specs.Refusals.{earlier, both_earlier, least}
 

@@ -1,13 +1,12 @@
 -- Terms taken from the end of a list, joined by their halves.
-use Rattle.std.proofs.Common.{◌≡◌, ℕ, ◌+◌, ◌-◌, ◌/◌, ◌≤◌, List, [], ◌∷◌, ◌++◌, length, take, drop, map, replicate, zero, suc}
+use Rattle.std.proofs.Common.{◌≡◌, ℕ, ◌+◌, ◌-◌, ◌/◌, ◌≤◌, List, [], ◌∷◌, ◌++◌, length, take, drop, map, zero, suc}
 use Rattle.std.proofs.Common.{refl, sym, ap, ◌∙◌, arith}
 use Rattle.std.proofs.lemmas.List.{length-take, length-drop, length-map, take-map, drop-drop, drop-take}
-use Rattle.std.proofs.lemmas.List.{drop_all, drop_at, take_all, take_at, length-append}
+use Rattle.std.proofs.lemmas.List.{drop_all, drop_at, length-append}
 use Rattle.hh_base.specs.declared.value.Pos.{Pos}
 use Rattle.host_expr.specs.declared.expr.Expr.{Expr}
 use Rattle.hh_term.specs.Placed.{Placed, Nothing, Seq, Trap}
 use Rattle.kernel_expand.specs.declared.forms.Join.{Join}
-use Rattle.kernel_expand.specs.declared.forms.Join.TheVariants as join
 use Rattle.kernel_expand.specs.Forms.{two, joined, waits, awaits}
 use Rattle.kernel_expand.specs.Halves.{in_halves}
 use Rattle.kernel_expand.proofs.Balanced.{two_halves, no_item, one_item, same_items}

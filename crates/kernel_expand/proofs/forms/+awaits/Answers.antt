@@ -1,6 +1,6 @@
-use Rattle.std.proofs.Common.{◌-◌, ◌/◌, refl, ap, ◌∙◌, arith}
+use Rattle.std.proofs.Common.{◌/◌, refl, ap, ◌∙◌, arith}
 use Rattle.hh_term.specs.Placed.{Seq, Trap}
-use Rattle.kernel_expand.specs.Forms.{awaits, waits}
+use Rattle.kernel_expand.specs.Forms.{waits}
 use Rattle.kernel_expand.proofs.Lasts.{awaits_none, awaits_one, awaits_more}
 use Rattle.kernel_expand.proofs.forms.+awaits.Goals as goal
 

@@ -1,4 +1,4 @@
-use Rattle.std.proofs.Common.{◌≡◌, ◌++◌, [], ◌∷◌, Some, ap, ◌∙◌, arith, option_to_list}
+use Rattle.std.proofs.Common.{◌++◌, ap, ◌∙◌, arith, option_to_list}
 use Rattle.hh_term.specs.Placed.{placed_term}
 use Rattle.kernel_expand.proofs.Lasts.{none_left, one_left}
 use Rattle.kernel_expand.proofs.forms.last_or_nothing.Goals as goal

@@ -1,4 +1,4 @@
-use Rattle.std.proofs.Common.{ℕ, ◌-◌, ◌/◌, List, length, map, drop, take, refl, ap, ◌∙◌, arith}
+use Rattle.std.proofs.Common.{◌-◌, ◌/◌, List, length, map, drop, refl, ap, ◌∙◌, arith}
 use Rattle.hh_term.specs.declared.term.Term.{Term}
 use Rattle.hh_term.specs.Placed.{Nothing, placed_term}
 use Rattle.kernel_expand.specs.Forms.{two, joined}
