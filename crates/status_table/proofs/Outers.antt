@@ -1,6 +1,6 @@
 -- The interface signals in a flat table.
 use Rattle.std.proofs.Common.{◌≡◌, refl, sym, ap, subst, ◌∙◌, ℕ, Bool, true, false, cond, ◌==◌, List, [], ◌∷◌}
-use Rattle.std.proofs.Common.{eqb-true, eq-eqb, ◌⊎◌, ⊎_elim}
+use Rattle.std.proofs.Common.{eqb-true, eq-eqb, ⊎_elim}
 use Rattle.host_expr.specs.declared.cell.SigCell.{SigCell}
 use Rattle.host_expr.specs.Environment.{Env, put, unsolved}
 use Rattle.host_expr.specs.Knows.{EnvBelow, SignalBelow}

@@ -1,5 +1,5 @@
 -- Rounds raise a flat table, and what they put is above what stands there.
-use Rattle.std.proofs.Common.{◌≡◌, refl, sym, subst, ◌∙◌, ℕ, suc, ◌+◌, ◌≤◌, Bool, true, false, [], ◌∷◌, ◌⊎◌}
+use Rattle.std.proofs.Common.{◌≡◌, refl, sym, subst, ◌∙◌, ℕ, suc, ◌+◌, ◌≤◌, Bool, true, false, [], ◌⊎◌}
 use Rattle.std.proofs.Common.{inl, inr, ⊎_elim, arith}
 use Rattle.hh_base.specs.declared.value.Tri.{Tri}
 use Rattle.hh_base.specs.declared.value.Tri.TheVariants.{Unknown, Zero, One}
@@ -16,7 +16,7 @@ use Rattle.hh_term.specs.Statement.{Local, Async}
 use Rattle.hh_term.specs.Selection.{AtAsync, First, Second, Both, Inside, Scope, Task, Start, Resume}
 use Rattle.hh_term.specs.MustCan.{Table, MustCan, Index, Possible, gives, is_end, raised}
 use Rattle.hh_term.specs.Knows.{IndexBelow, MustCanBelow}
-use Rattle.hh_term.proofs.Rises.{Rises, code_up, is_end_up, sequence_up, parallel_up, trapped_up, chosen_up}
+use Rattle.hh_term.proofs.Rises.{code_up, is_end_up, sequence_up, parallel_up, trapped_up, chosen_up}
 use Rattle.hh_term.proofs.Rises.{held_up}
 use Rattle.hh_term.proofs.Rounds.{raised_up, put_up, hide_up}
 use Rattle.status_table.specs.Flat.{Cells, cell_with, flat}

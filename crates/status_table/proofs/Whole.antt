@@ -1,11 +1,10 @@
 -- A whole program: where rounds reach an environment and a table that no round changes, both are solved.
-use Rattle.std.proofs.Common.{◌≡◌, refl, sym, ap, subst, ◌∙◌, ℕ, Bool, true, false, cond, ◌==◌, Option, List}
-use Rattle.std.proofs.Common.{[], ◌∷◌, eqb-true, eq-eqb, ◌⊎◌, inl, inr, ⊎_elim, arith}
+use Rattle.std.proofs.Common.{◌≡◌, refl, sym, ap, subst, ◌∙◌, ℕ, Bool, true, false, cond, ◌==◌, List}
+use Rattle.std.proofs.Common.{[], ◌∷◌, eqb-true, eq-eqb, ◌⊎◌, inl, inr, arith}
 use mathlib.Core.Path.{fun_ext}
-use Rattle.host_expr.specs.declared.cell.SigCell.{SigCell}
-use Rattle.host_expr.specs.Environment.{Env, put, blank, unsolved}
+use Rattle.host_expr.specs.Environment.{Env, blank, unsolved}
 use Rattle.host_expr.specs.Knows.{EnvBelow, SignalBelow}
-use Rattle.host_expr.proofs.Information.{env_refl, signal_refl}
+use Rattle.host_expr.proofs.Information.{signal_refl}
 use Rattle.hh_term.specs.Statement.{Statement}
 use Rattle.hh_term.specs.Selection.{Control, Fresh, At, Ended, Start, Resume}
 use Rattle.hh_term.specs.MustCan.{Table, MustCan, Executed}
@@ -14,7 +13,7 @@ use Rattle.hh_term.specs.Reaction.{Outer, solved, program_must_can, program_step
 use Rattle.hh_term.proofs.Interface.{program_grows}
 use Rattle.status_table.specs.Flat.{Cells}
 use Rattle.status_table.specs.Moving.{Unique, nothing_known}
-use Rattle.status_table.specs.WholeProgram.{Contains, NotIn, Different, StandsAll, MovesAll, opened}
+use Rattle.status_table.specs.WholeProgram.{Contains, NotIn, Different, StandsAll, opened}
 use Rattle.status_table.specs.WholeProgram.{program_flat, ProgramStands, ProgramMoves, program_flat_step}
 use Rattle.status_table.specs.WholeProgram.{Reaches, begins, goes_on}
 use Rattle.status_table.specs.TableLaws.{ProgramIsSolved}

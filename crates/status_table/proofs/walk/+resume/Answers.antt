@@ -1,14 +1,14 @@
-use Rattle.std.proofs.Common.{◌≡◌, refl, sym, ap, ◌∙◌, subst, None, suc, length, ◌<◌, ◌+◌, add-one, arith}
+use Rattle.std.proofs.Common.{refl, sym, ap, ◌∙◌, subst, None, suc, length, ◌<◌, ◌+◌, add-one, arith}
 use Rattle.host_expr.specs.Expression.{expression_of}
 use Rattle.host_expr.specs.Environment.{env_of}
 use Rattle.host_expr.specs.Evaluation.{eval_of}
 use Rattle.hh_term.specs.Statement.{If, Suspend, Seq, Par, Loop, Trap, Local, Async}
 use Rattle.hh_term.specs.Selection.{Start, Resume, First, Second, Both, Inside, Scope, AtAsync}
-use Rattle.hh_term.specs.MustCan.{table_of, go_on, greater, lower_code, gives}
+use Rattle.hh_term.specs.MustCan.{table_of, go_on, greater, lower_code}
 use Rattle.hh_term.specs.ProgramView.{kernel_of}
 use Rattle.hh_term.specs.Views.{statement_of, node_statement, selection_of}
 use Rattle.status_table.specs.TableView.{cells_in}
-use Rattle.status_table.specs.Walking.{tested, index_of, first_bag, first_code, Counted, Fits, Left, Visited}
+use Rattle.status_table.specs.Walking.{tested, first_code, Fits, Left, Visited}
 use Rattle.status_table.proofs.Visiting.{known_as, resumed_as, in_turn_met, stopped_met, beside_met}
 use Rattle.status_table.proofs.Visiting.{suspend_holds, suspend_fails, suspend_open, trap_met, local_met}
 use Rattle.status_table.proofs.Visiting.{async_met, first_rests, second_rests}
