@@ -21,7 +21,7 @@ use Rattle.reactor.specs.Core.{State, begin, is_told, is_told_at, outputs_of, in
 use Rattle.scenario.specs.Print.{reply_line, number_after, printed}
 use Rattle.scenario.specs.declared.line.Line.{Line}
 use Rattle.scenario.specs.Scenario.{inputs_of_line}
-use Rattle.sync_step.specs.Steps.{Answers, IsStepOf, pure_inputs, is_output, is_output_at, present_outputs}
+use Rattle.first_step.specs.Steps.{Answers, IsStepOf, pure_inputs, is_output, is_output_at, present_outputs}
 use Rattle.hiphop_main.specs.Play.{unit_input, unit_output, event_of_line}
 use Rattle.hiphop_main.specs.Running.{Stands, Reacts, Advances, line_text, lines_text}
 use Rattle.hiphop_main.proofs.Puts.{puts_nothing, puts_both, puts_same, cuts_behind}

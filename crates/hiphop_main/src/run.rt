@@ -23,7 +23,7 @@ use reactor::reply::{Done, Outputs, Reply};
 use scenario::line::Line;
 use scenario::print::print_reply;
 use std::alloc::Global;
-use sync_step::step;
+use first_step::step;
 
 /// The reply of an accepted reaction with these present outputs and this completion code.
 fn reply_of(alloc: Global, signals: &[u32], code: Option<u8>) -> Result<Reply, NoMemory>

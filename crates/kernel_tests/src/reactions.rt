@@ -17,7 +17,7 @@ use hh_term::program::{Program, SignalDecl};
 use hh_term::term::{Term, TermNode};
 use host_expr::expr::{Expr, ExprNode};
 use std::alloc::Global;
-use sync_step::step;
+use first_step::step;
 
 fn named(alloc: Global, text: &str) -> Result<Name, NoMemory>
     ensures { IfOk result (λ n. n ≡ text.now) }

@@ -18,9 +18,9 @@ use Rattle.hh_base.specs.declared.value.Dir.TheVariants as dir
 use Rattle.hh_term.specs.FirstLanguage.{HasDirection}
 use Rattle.hh_term.specs.MustCan.{Table, MustCan, cells_of, status_by, value_by, all_known, raised, round}
 use Rattle.hh_term.specs.Reaction.{Last, Outer, given_bag, with_given, solved_cell, nest, solved, given_to, outers_from}
-use Rattle.sync_step.proofs.WalkLaws.{bag_of, status_of, Decides}
-use Rattle.sync_step.proofs.WalkEnds.{AreOutputs}
-use Rattle.sync_step.proofs.Bags.{same_or_not, not_same, cells-append, Has, has_outside, one_direction, OnlyOutputs, no_input}
+use Rattle.first_step.proofs.WalkLaws.{bag_of, status_of, Decides}
+use Rattle.first_step.proofs.WalkEnds.{AreOutputs}
+use Rattle.first_step.proofs.Bags.{same_or_not, not_same, cells-append, Has, has_outside, one_direction, OnlyOutputs, no_input}
 
 -- a given signal has the value of pure signals
 abbrev pub value_given : Bool → Option Value

@@ -3,8 +3,8 @@ use Rattle.std.proofs.Common.{◌≡◌, ◌≢◌, ◌<◌, ℕ, ◌+◌, Bool,
 use Rattle.std.specs.Prelude.{slice_set}
 use Rattle.std.proofs.lemmas.List.{take_more, get_or-replicate}
 use Rattle.std.proofs.lemmas.Grind.{common_steps}
-use Rattle.sync_step.specs.Walking.{flag_of, is_among}
-use Rattle.sync_step.proofs.Bags.{same_or_not}
+use Rattle.first_step.specs.Walking.{flag_of, is_among}
+use Rattle.first_step.proofs.Bags.{same_or_not}
 
 -- the flags are set for these signals
 pub record Marks (count : ℕ) (flags : List Bool) (signals : List ℕ) : Type 0 where

@@ -5,9 +5,9 @@ ghost use Rattle.host_expr.specs.Expression.{expression_of};
 ghost use Rattle.hh_term.specs.Selection.{First as AtFirst, Second as AtSecond, Start, Resume};
 ghost use Rattle.hh_term.specs.Views.{statement_of, selection_of};
 ghost use Rattle.hh_term.specs.Step.{mark_map};
-ghost use Rattle.sync_step.specs.Walk.{walk, test_holds};
-ghost use Rattle.sync_step.specs.Walk.{ends as walk_ends, rests as walk_rests};
-ghost use Rattle.sync_step.specs.Walking.{Shows, flag_of, optional_selection};
+ghost use Rattle.first_step.specs.Walk.{walk, test_holds};
+ghost use Rattle.first_step.specs.Walk.{ends as walk_ends, rests as walk_rests};
+ghost use Rattle.first_step.specs.Walking.{Shows, flag_of, optional_selection};
 
 use hh_base::value::NoMemory;
 use hh_term::mark::Mark;

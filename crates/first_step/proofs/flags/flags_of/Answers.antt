@@ -1,5 +1,5 @@
-use Rattle.sync_step.proofs.Marking.{one_more}
-use Rattle.sync_step.proofs.flags.flags_of.Goals as goal
+use Rattle.first_step.proofs.Marking.{one_more}
+use Rattle.first_step.proofs.flags.flags_of.Goals as goal
 
 pub loop-s-preserved : goal.loop-s-preserved
 loop-s-preserved c =

@@ -27,13 +27,13 @@ use Rattle.hh_term.specs.MustCan.{Table, table_of, MustCan, Bag, Executed, must_
 use Rattle.hh_term.specs.Step.{Stepped, leave, values_of, value_in}
 use Rattle.hh_term.specs.Touches.{marks_numbered}
 use Rattle.hh_term.specs.Reaction.{Last, Outer, Now, Ran, Completes, Outcome, Undecided, Doubled, Faulted, first_declared, earlier, idle, given_bag, program_must_can, program_step, solved, undecided, leave_all, now_of, control_after, completed, judged, concluded, given_to, outers_from}
-use Rattle.sync_step.specs.Walk.{Walked, walk, Reacted, reacted, control_at, program_walk}
-use Rattle.sync_step.specs.Walking.{is_among, passing_below}
-use Rattle.sync_step.specs.Steps.{pure_inputs, is_output_at, present_outputs, IsStepOf}
-use Rattle.sync_step.proofs.WalkLaws.{bag_of, Decides, Does, walk_does, stepped_of, walk_steps}
-use Rattle.sync_step.proofs.WalkEnds.{AreOutputs, NextIn, Keeps, walk_keeps, numbered_same}
-use Rattle.sync_step.proofs.Bags.{not_same, Has, no_input, one_direction, emits_outputs}
-use Rattle.sync_step.proofs.Interface.{IsPureTable, value_given, given_cells, SolvedBy, all_cells, solved_by, status_given, bag_outputs}
+use Rattle.first_step.specs.Walk.{Walked, walk, Reacted, reacted, control_at, program_walk}
+use Rattle.first_step.specs.Walking.{is_among, passing_below}
+use Rattle.first_step.specs.Steps.{pure_inputs, is_output_at, present_outputs, IsStepOf}
+use Rattle.first_step.proofs.WalkLaws.{bag_of, Decides, Does, walk_does, stepped_of, walk_steps}
+use Rattle.first_step.proofs.WalkEnds.{AreOutputs, NextIn, Keeps, walk_keeps, numbered_same}
+use Rattle.first_step.proofs.Bags.{not_same, Has, no_input, one_direction, emits_outputs}
+use Rattle.first_step.proofs.Interface.{IsPureTable, value_given, given_cells, SolvedBy, all_cells, solved_by, status_given, bag_outputs}
 
 no_several : (k : Kind) (w : Option CombineWord) (vs : List Value) → k ≡ kind.Pure → w ≡ None → is_several k w vs ≡ false
 no_several k w [] h g = rw (h, g) refl

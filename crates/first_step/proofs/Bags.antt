@@ -15,7 +15,7 @@ use Rattle.hh_term.specs.Selection.{First, Second, Task, Start, Resume}
 use Rattle.hh_term.specs.FirstLanguage.{IsFirstStatement, HasDirection}
 use Rattle.hh_term.specs.MustCan.{Table, MustCan, Bag, Index, Executed, Possible, must_can, gives, sequence, chosen, cells_of, without, hide, is_end}
 use Rattle.hh_term.specs.Reaction.{Outer, given_bag, with_given}
-use Rattle.sync_step.proofs.WalkLaws.{IsTaskOf}
+use Rattle.first_step.proofs.WalkLaws.{IsTaskOf}
 
 -- a test for equality, decided
 pub same_or_not : (a b : ℕ) → (((a == b) ≡ true) × (a ≡ b)) ⊎ (((a == b) ≡ false) × (a ≢ b))

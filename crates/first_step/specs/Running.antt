@@ -1,8 +1,8 @@
 -- How the values of the code stand for the walk of a whole program. (This project's own.)
 use Rattle.std.specs.Prelude.{◌≡◌}
 use Rattle.hh_term.specs.Views.{control_of}
-use Rattle.sync_step.specs.declared.reaction.End.{End}
-use Rattle.sync_step.specs.Walk.{Reacted}
+use Rattle.first_step.specs.declared.reaction.End.{End}
+use Rattle.first_step.specs.Walk.{Reacted}
 
 -- the emissions, the code and the control are those of the walk
 pub record Runs (a : End) (w : Reacted) : Type 0 where

@@ -8,10 +8,10 @@ ghost use Rattle.hh_term.specs.FirstLanguage.{HasDirection, IsFirstLanguage};
 ghost use Rattle.hh_term.specs.Marks.{IsControlOf};
 ghost use Rattle.hh_term.specs.ProgramView.{kernel_of};
 ghost use Rattle.hh_term.specs.Views.{control_of};
-ghost use Rattle.sync_step.specs.Steps.{IsStepOf};
-ghost use Rattle.sync_step.specs.Walk.{program_walk, control_at};
-ghost use Rattle.sync_step.specs.Walking.{flag_of, optional_selection};
-ghost use Rattle.sync_step.specs.Running.{Runs};
+ghost use Rattle.first_step.specs.Steps.{IsStepOf};
+ghost use Rattle.first_step.specs.Walk.{program_walk, control_at};
+ghost use Rattle.first_step.specs.Walking.{flag_of, optional_selection};
+ghost use Rattle.first_step.specs.Running.{Runs};
 
 use crate::flags::{flags_of, set_in};
 use crate::walk::{Completion, resume, start};

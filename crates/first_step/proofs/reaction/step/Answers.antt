@@ -3,9 +3,9 @@ use Rattle.hh_term.specs.Views.{control_in}
 use Rattle.hh_term.specs.ProgramView.{kernel_of}
 use Rattle.hh_term.specs.Views.{control_of}
 use Rattle.hh_term.specs.Marks.{IsControlOf}
-use Rattle.sync_step.specs.Walking.{flag_of, passing_below, is_among}
-use Rattle.sync_step.proofs.Concluding.{concludes, next_rests, ids_differ, emitted_below}
-use Rattle.sync_step.proofs.reaction.step.Goals as goal
+use Rattle.first_step.specs.Walking.{flag_of, passing_below, is_among}
+use Rattle.first_step.proofs.Concluding.{concludes, next_rests, ids_differ, emitted_below}
+use Rattle.first_step.proofs.reaction.step.Goals as goal
 
 pub flags_of-requires-2 : goal.flags_of-requires-2
 flags_of-requires-2 c =

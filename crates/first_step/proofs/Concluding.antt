@@ -11,13 +11,13 @@ use Rattle.hh_term.specs.Statement.{Statement, Nothing, Pause, Emit, If, Seq}
 use Rattle.hh_term.specs.Selection.{Selection, AtPause, First, Second, Control, Fresh, At, Ended}
 use Rattle.hh_term.specs.Marks.{IsMarkOf, IsControlOf, ids_in, IdsDiffer}
 use Rattle.hh_term.specs.Views.{control_of}
-use Rattle.sync_step.specs.declared.reaction.End.{End}
-use Rattle.sync_step.specs.Walk.{program_walk}
-use Rattle.sync_step.specs.Walking.{flag_of, is_among, passing_below}
-use Rattle.sync_step.specs.Running.{Runs}
-use Rattle.sync_step.specs.Steps.{IsStepOf}
-use Rattle.sync_step.proofs.WalkEnds.{AreOutputs}
-use Rattle.sync_step.proofs.Reacts.{run_is, answers}
+use Rattle.first_step.specs.declared.reaction.End.{End}
+use Rattle.first_step.specs.Walk.{program_walk}
+use Rattle.first_step.specs.Walking.{flag_of, is_among, passing_below}
+use Rattle.first_step.specs.Running.{Runs}
+use Rattle.first_step.specs.Steps.{IsStepOf}
+use Rattle.first_step.proofs.WalkEnds.{AreOutputs}
+use Rattle.first_step.proofs.Reacts.{run_is, answers}
 
 -- the answer, put together
 pub concludes : (K : Kernel) (L : IsFirstLanguage K) (c : Control) → IsControlOf K.statement c → (inputs : List ℕ) → AllByRecursion (λ s. HasDirection K.signals s dir.Input) inputs

@@ -9,8 +9,8 @@ use Rattle.hh_term.specs.FirstLanguage.{IsFirstStatement, HasDirection}
 use Rattle.hh_term.specs.Step.{mark_map}
 use Rattle.hh_term.specs.Touches.{marks_numbered}
 use Rattle.hh_term.specs.Marks.{IsMarkOf}
-use Rattle.sync_step.specs.Walk.{Walked, part, followed, walk}
-use Rattle.sync_step.proofs.WalkLaws.{IsTaskOf}
+use Rattle.first_step.specs.Walk.{Walked, part, followed, walk}
+use Rattle.first_step.proofs.WalkLaws.{IsTaskOf}
 
 -- no mark, or one of the statement
 abbrev pub NextIn : Statement → Option Selection → Type 0

@@ -1,7 +1,7 @@
 //! Flags by signal number.
 
 ghost use Rattle.std.specs.Prelude.{◌≡◌, ◌<◌, ℕ, IfOk, length, slice_index};
-ghost use Rattle.sync_step.specs.Walking.{flag_of, is_among, passing_below};
+ghost use Rattle.first_step.specs.Walking.{flag_of, is_among, passing_below};
 
 use hh_base::value::NoMemory;
 use std::alloc::Global;

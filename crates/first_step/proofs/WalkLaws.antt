@@ -17,7 +17,7 @@ use Rattle.hh_term.specs.FirstLanguage.{IsFirstStatement, HasDirection}
 use Rattle.hh_term.specs.MustCan.{Table, MustCan, Bag, Index, Executed, Possible, must_can, sequence, chosen, one_of}
 use Rattle.hh_term.specs.Step.{Stepped, step, then_start}
 use Rattle.hh_term.specs.Marks.{IsMarkOf}
-use Rattle.sync_step.specs.Walk.{Walked, part, followed, walk}
+use Rattle.first_step.specs.Walk.{Walked, part, followed, walk}
 
 -- emissions of pure signals
 abbrev pub bag_of : List ℕ → Bag

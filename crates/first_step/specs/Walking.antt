@@ -3,8 +3,8 @@ use Rattle.std.specs.Prelude.{◌≡◌, ℕ, zero, suc, Bool, true, false, cond
 use Rattle.hh_term.specs.declared.mark.Mark.{Mark}
 use Rattle.hh_term.specs.Selection.{Selection}
 use Rattle.hh_term.specs.Views.{selection_of}
-use Rattle.sync_step.specs.declared.walk.Completion.{Completion}
-use Rattle.sync_step.specs.Walk.{Walked}
+use Rattle.first_step.specs.declared.walk.Completion.{Completion}
+use Rattle.first_step.specs.Walk.{Walked}
 
 -- flags by signal number; a signal past their end has none
 abbrev pub flag_of : List Bool → ℕ → Bool
