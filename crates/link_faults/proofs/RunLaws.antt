@@ -53,7 +53,7 @@ abbrev pub item_at : {A : Type 0} → List A → Option ℕ → Option A
 item_at xs None = None
 item_at xs (Some p) = slice_get xs p
 
-at_seam : {A : Type 0} (pre : List A) (x : A) (rest : List A)
+pub at_seam : {A : Type 0} (pre : List A) (x : A) (rest : List A)
     → slice_get (pre ++ x ∷ rest) (length pre) ≡ Some x
 at_seam [] x rest = refl
 at_seam (y ∷ pre) x rest = at_seam pre x rest

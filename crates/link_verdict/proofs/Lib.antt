@@ -1,0 +1,2 @@
+pub mod StatementWalks
+pub mod Interfaces
