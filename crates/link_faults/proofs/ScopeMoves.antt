@@ -3,18 +3,15 @@ use Rattle.std.proofs.Common.{◌≡◌, ℕ, ◌+◌, Some, List, [], ◌∷◌
 use Rattle.std.proofs.Common.{zero, suc, append_assoc, length-append}
 use Rattle.std.specs.Prelude.{slice_get}
 use Rattle.std.proofs.lemmas.List.{map-append}
-use Rattle.hh_base.specs.declared.value.Dir.TheVariants as dir
 use Rattle.indexmap.specs.IndexMap.{get_by_text}
 use Rattle.module_tree.specs.declared.source.SignalNode.{SignalNode}
 use Rattle.module_tree.specs.Scopes.{Signal, InScope, local_signals, with_signals}
 use Rattle.link_faults.specs.declared.names.Meaning.{Meaning}
-use Rattle.link_faults.specs.declared.names.Names.{Names}
 use Rattle.link_faults.specs.declared.scope.Scope.{Scope}
 use Rattle.link_faults.specs.declared.walk.Walker.{Walker}
 use Rattle.link_faults.specs.InnermostFirst.{Named, IsScope, in_scope, shown}
-use Rattle.link_faults.specs.Rows.{no_kinds}
 use Rattle.link_faults.specs.Meanings.{meaning}
-use Rattle.link_faults.specs.Walks.{Shown, shown_by, shown_signal, Stands, local_meaning}
+use Rattle.link_faults.specs.Walks.{shown_by, shown_signal, Stands, local_meaning}
 use Rattle.link_faults.proofs.RunLaws.{at_seam}
 use Rattle.link_faults.proofs.WalkLaws.{head_of, tail_of}
 

@@ -9,7 +9,7 @@ use Rattle.std.proofs.lemmas.List.{append-nil, map-append}
 use Rattle.std.proofs.lemmas.List.Concat.{flat_map-append}
 use Rattle.indexmap.specs.IndexMap.{get_by_text}
 use Rattle.module_tree.specs.Scopes.{Signal, TrapName, InScope, Declared}
-use Rattle.module_tree.specs.Parts.{StatementPart, Test, Locals, Placed, Walk, Walked, here, empty, then, in_order, joined}
+use Rattle.module_tree.specs.Parts.{StatementPart, Test, Locals, Walk, Walked, here, empty, then, in_order, joined}
 use Rattle.module_tree.specs.Parts.{locals_walk, block_walk, statement_step, block_step}
 use Rattle.module_tree.specs.declared.source.ExprAt.{ExprAt}
 use Rattle.module_tree.specs.declared.source.SignalNode.{SignalNode}
@@ -20,19 +20,18 @@ use Rattle.module_tree.specs.declared.source.Statement.TheFolds.{fold-roll-State
 use Rattle.module_tree.specs.declared.source.NameAt.{NameAt}
 use Rattle.link_faults.specs.declared.fault.LinkKind.TheVariants as fault
 use Rattle.link_faults.specs.declared.fault.LinkFault.{LinkFault}
-use Rattle.link_faults.specs.declared.names.Meaning.{Meaning}
 use Rattle.link_faults.specs.declared.names.Names.{Names}
 use Rattle.link_faults.specs.declared.scope.Scope.{Scope}
 use Rattle.link_faults.specs.declared.walk.Walker.{Walker}
 use Rattle.link_faults.specs.Faults.{earlier}
 use Rattle.link_faults.specs.Earliest.{first_at, first_by}
-use Rattle.link_faults.specs.Named.{Name, signal_named, trap_named}
+use Rattle.link_faults.specs.Named.{Name, trap_named}
 use Rattle.link_faults.specs.InnermostFirst.{Named, IsScope, in_scope, place_in}
 use Rattle.link_faults.specs.SourceKinds.{Kinds}
 use Rattle.link_faults.specs.Rows.{Program, no_kinds, called, here_if}
 use Rattle.link_faults.specs.Meanings.{meaning, meaning_at, meaning_of, meant_in, kind_of_parameter}
 use Rattle.link_faults.specs.PartFaults.{Meanings}
-use Rattle.link_faults.specs.Walks.{first_of_part, first_placed, runs_among, runs_placed, Shown, shown_by}
+use Rattle.link_faults.specs.Walks.{first_of_part, first_placed, runs_among, runs_placed, shown_by}
 use Rattle.link_faults.specs.Walks.{shown_signal, IsReady, Stands, Passes, Moves, Follows, statement_walk}
 use Rattle.link_faults.proofs.TextLaws.{one_more}
 use Rattle.link_faults.proofs.EarlierLaws.{earlier_none, earlier_grouped, first_by_joined}

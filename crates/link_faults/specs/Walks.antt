@@ -13,11 +13,10 @@ use Rattle.module_tree.specs.declared.source.StatementNode.{StatementNode}
 use Rattle.module_tree.specs.declared.source.Statement.TheFolds.{fold-Statement, fold-StatementNode}
 use Rattle.module_tree.specs.Scopes.{Signal, TrapName, InScope, Declared}
 use Rattle.module_tree.specs.Parts.{StatementPart, Test, Times, Emission, Locals, Exit, Call, Start, Placed}
-use Rattle.module_tree.specs.Parts.{Walk, Walked, statement_step, block_step}
+use Rattle.module_tree.specs.Parts.{Walk, statement_step, block_step}
 use Rattle.link_faults.specs.declared.fault.LinkKind.TheVariants as fault
 use Rattle.link_faults.specs.declared.fault.LinkFault.{LinkFault}
 use Rattle.link_faults.specs.declared.names.Meaning.{Meaning}
-use Rattle.link_faults.specs.declared.names.Names.{Names}
 use Rattle.link_faults.specs.declared.walk.RunAt.{RunAt}
 use Rattle.link_faults.specs.declared.walk.Walker.{Walker}
 use Rattle.link_faults.specs.Faults.{earlier}

@@ -1,4 +1,4 @@
-use Rattle.std.proofs.Common.{refl, ◌∙◌, ap}
+use Rattle.std.proofs.Common.{refl}
 use Rattle.link_faults.specs.declared.names.Names.{Names}
 use Rattle.link_faults.proofs.ScopeMoves.{stands_within}
 use Rattle.link_faults.proofs.walk.Walker.enter_signals.Goals as goal
