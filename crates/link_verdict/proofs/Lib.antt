@@ -1,2 +1,3 @@
 pub mod StatementWalks
 pub mod Interfaces
+pub mod Parameters

@@ -1,8 +1,8 @@
 //! Going over the statements of a module.
 
-ghost use Rattle.std.specs.Prelude.{OnOk, map};
-ghost use Rattle.module_tree.specs.Parts.{Test, Emission, Exit, Start, Locals, here, then, in_order, plain_walk};
-ghost use Rattle.module_tree.specs.Parts.{delay_walk, locals_walk, trap_walk, block_walk};
+ghost use Rattle.std.specs.Prelude.{OnOk, map, option_map};
+ghost use Rattle.module_tree.specs.Parts.{Test, Emission, Exit, Start, Locals, here, then, in_order, if_there};
+ghost use Rattle.module_tree.specs.Parts.{plain_walk, delay_walk, locals_walk, trap_walk, block_walk};
 ghost use Rattle.link_faults.specs.TextTables.{IsText};
 ghost use Rattle.link_faults.specs.Walks.{Follows, IsReady, statement_walk, node_walk};
 
@@ -126,24 +126,23 @@ fn do_every(
     Ok(())
 }
 
-/// Of a test, a block, and the block behind `else`.
+/// Of the block behind `else`.
 #[cycle(walk)]
-fn either(
+fn otherwise(
     walker: &mut Walker,
     alloc: Global,
     text: &Text<'_>,
-    x: &ExprAt<Name>,
-    block: &BlockNode<Name>,
-    other: &BlockNode<Name>,
+    other: &Option<BlockNode<Name>>,
 ) -> Result<(), NoMemory>
     requires text { IsText text.now }
     requires ready { IsReady walker.old }
-    ensures { OnOk result (Follows text.now.parts.now (then (then (here (Test x.now)) (block_walk block.now))
-        (block_walk other.now)) walker.old walker.new) }
+    ensures { OnOk result (Follows text.now.parts.now (if_there (option_map block_walk other.now)) walker.old
+        walker.new) }
 {
-    tested(walker, alloc, text, x, block)?;
-    over_block(walker, alloc, text, other)?;
-    Ok(())
+    match other {
+        None => Ok(()),
+        Some(block) => over_block(walker, alloc, text, block),
+    }
 }
 
 #[cycle(walk)]
@@ -221,8 +220,11 @@ fn over_statement(
         Statement::Halt => Ok(()),
         Statement::Emit(signal, value) => over_emission(walker, text, signal, value),
         Statement::Sustain(signal, value) => over_emission(walker, text, signal, value),
-        Statement::If(x, block, None) => tested(walker, alloc, text, x, block),
-        Statement::If(x, block, Some(other)) => either(walker, alloc, text, x, block, other),
+        Statement::If(x, block, other) => {
+            tested(walker, alloc, text, x, block)?;
+            otherwise(walker, alloc, text, other)?;
+            Ok(())
+        }
         Statement::Loop(block) => over_block(walker, alloc, text, block),
         Statement::Fork(blocks) => over_blocks(walker, alloc, text, blocks.as_slice()),
         Statement::Block(block) => over_block(walker, alloc, text, block),

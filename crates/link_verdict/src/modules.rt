@@ -128,15 +128,15 @@ fn walker_of(alloc: Global, interface: &[InterfaceNode]) -> Result<Walker, NoMem
 pub fn over_module(
     alloc: Global,
     text: &Text<'_>,
-    module: &ModuleNode<Name>,
+    node: &ModuleNode<Name>,
 ) -> Result<InModule, NoMemory>
     requires { IsText text.now }
-    ensures first { IfOk result (λ f. f.first ≡ first_in_module text.now.parts.now module.now) }
-    ensures runs { IfOk result (λ f. f.runs ≡ placed_runs text.now.parts.now module.now) }
+    ensures first { IfOk result (λ f. f.first ≡ first_in_module text.now.parts.now node.now) }
+    ensures runs { IfOk result (λ f. f.runs ≡ placed_runs text.now.parts.now node.now) }
 {
-    let own = first_in_interface(alloc, module.interface.as_slice())?;
-    let mut walker = walker_of(alloc, module.interface.as_slice())?;
-    over_block(&mut walker, alloc, text, &module.block)?;
+    let own = first_in_interface(alloc, node.interface.as_slice())?;
+    let mut walker = walker_of(alloc, node.interface.as_slice())?;
+    over_block(&mut walker, alloc, text, &node.block)?;
     let Walker { first, runs, .. } = walker;
     Ok(InModule {
         first: earlier(own, first),

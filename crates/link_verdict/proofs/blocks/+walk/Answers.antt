@@ -1,12 +1,12 @@
-use Rattle.std.proofs.Common.{◌≡◌, ◌+◌, Some, None, length, map, refl, sym, ◌∙◌, ap, subst, rules}
-use Rattle.std.specs.Prelude.{OnOk}
-use Rattle.module_tree.specs.declared.source.Statement.TheVariants as written
+use Rattle.std.proofs.Common.{◌≡◌, ◌+◌, Option, length, map, refl, sym, ◌∙◌, ap, subst}
+use Rattle.std.specs.Prelude.{OnOk, option_map}
+use Rattle.module_tree.specs.declared.source.BlockNode.{BlockNode}
 use Rattle.module_tree.specs.Scopes.{with_signals, with_trap}
-use Rattle.module_tree.specs.Parts.{Test, Locals, here, then, plain_walk, delay_walk, locals_walk, block_walk, Walk}
+use Rattle.module_tree.specs.Parts.{Test, Locals, here, then, if_there, plain_walk, delay_walk, locals_walk, block_walk, Walk}
 use Rattle.link_faults.specs.Named.{Name}
-use Rattle.link_faults.specs.Walks.{Follows, IsReady, statement_walk, node_walk}
-use Rattle.link_faults.proofs.WalkLaws.{follows_then, follows_more, follows_within, walk_signal}
-use Rattle.link_verdict.proofs.StatementWalks.{without_else, with_else}
+use Rattle.link_faults.specs.Walks.{Follows, statement_walk, node_walk}
+use Rattle.link_faults.proofs.WalkLaws.{follows_empty, follows_then, follows_more, follows_within, walk_signal}
+use Rattle.link_verdict.proofs.StatementWalks.{walk_branches}
 use Rattle.link_verdict.proofs.blocks.+walk.Goals as goal
 
 pub tested-returns : goal.tested-returns
@@ -23,12 +23,6 @@ pub do_every-returns : goal.do_every-returns
 do_every-returns t c = follows_then c.args.text.now.parts.now (block_walk c.args.block.now)
     (plain_walk c.args.later.now) c.args.walker.now c.over_block.new.walker c.over_later.new.walker
     c.in_ok-over_block.ensures c.over_later.ensures
-
-pub either-returns : goal.either-returns
-either-returns t c = follows_then c.args.text.now.parts.now
-    (then (here (Test c.args.x.now)) (block_walk c.args.block.now)) (block_walk c.args.other.now)
-    c.args.walker.now c.tested.new.walker c.over_block.new.walker c.in_ok-tested.ensures
-    c.in_ok-over_block.ensures
 
 pub within_signals-returns : goal.within_signals-returns
 within_signals-returns t c =
@@ -73,29 +67,31 @@ over_nodes-each_node-preserved t c = record {
       c.node-item.is c.each_node.invariant.follows c.in_ok-over_node.ensures;
 }
 
-pub over_statement-returns-in-If-default-default-None : goal.over_statement-returns-in-If-default-default-None
-over_statement-returns-in-If-default-default-None t c =
-    let x = c.in-If-default-default-None.x in
-    let block = c.in-If-default-default-None.block in
-    let walk : statement_walk c.args.statement.now ≡ then (here (Test x)) (block_walk block) =
-        ap statement_walk c.in-If-default-default-None.is
-        ∙ ap (λ o. statement_walk (written.If x block o)) c.in-If-default-default-None.field-2-is
-        ∙ without_else x block in
-    subst (λ (w : Walk Name). OnOk c.tested.result (Follows c.args.text.now.parts.now w c.args.walker.now
-    c.tested.new.walker)) (sym walk) c.tested.ensures
+pub otherwise-returns-in-None : goal.otherwise-returns-in-None
+otherwise-returns-in-None t c =
+    let parts = c.args.text.now.parts.now in
+    let old = c.args.walker.now in
+    subst (λ (o : Option (BlockNode Name)). Follows parts (if_there (option_map block_walk o)) old old)
+    (sym c.in-None.is) (follows_empty parts old)
 
-pub over_statement-returns-in-If-default-default-Some : goal.over_statement-returns-in-If-default-default-Some
-over_statement-returns-in-If-default-default-Some t c =
-    let x = c.in-If-default-default-Some.x in
-    let block = c.in-If-default-default-Some.block in
-    let other = c.in-If-default-default-Some.other in
+pub otherwise-returns-in-Some : goal.otherwise-returns-in-Some
+otherwise-returns-in-Some t c = subst (λ (o : Option (BlockNode Name)). OnOk c.over_block.result
+    (Follows c.args.text.now.parts.now (if_there (option_map block_walk o)) c.args.walker.now
+    c.over_block.new.walker)) (sym c.in-Some.is) c.over_block.ensures
+
+pub over_statement-returns-in_ok-otherwise-in-If : goal.over_statement-returns-in_ok-otherwise-in-If
+over_statement-returns-in_ok-otherwise-in-If t c =
+    let parts = c.args.text.now.parts.now in
+    let x = c.in-If.x in
+    let block = c.in-If.block in
+    let other = c.in-If.other in
     let walk : statement_walk c.args.statement.now ≡ then (then (here (Test x)) (block_walk block))
-        (block_walk other) =
-        ap statement_walk c.in-If-default-default-Some.is
-        ∙ ap (λ o. statement_walk (written.If x block o)) c.in-If-default-default-Some.field-2-is
-        ∙ with_else x block other in
-    subst (λ (w : Walk Name). OnOk c.either.result (Follows c.args.text.now.parts.now w c.args.walker.now
-    c.either.new.walker)) (sym walk) c.either.ensures
+        (if_there (option_map block_walk other)) =
+        ap statement_walk c.in-If.is ∙ walk_branches x block other in
+    subst (λ (w : Walk Name). Follows parts w c.args.walker.now c.otherwise.new.walker) (sym walk)
+    (follows_then parts (then (here (Test x)) (block_walk block)) (if_there (option_map block_walk other))
+    c.args.walker.now c.tested.new.walker c.otherwise.new.walker c.in_ok-tested-in-If.ensures
+    c.in_ok-otherwise-in-If.ensures)
 
 pub over_statement-returns-in-Signal : goal.over_statement-returns-in-Signal
 over_statement-returns-in-Signal t c =
