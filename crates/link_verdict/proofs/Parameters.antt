@@ -1,11 +1,17 @@
--- The kinds of parameters by name, from the last parameter to the first.
+-- What names mean in a body: parameters their kinds, and no name is a signal.
 use Rattle.std.proofs.Common.{◌≡◌, ℕ, ◌+◌, ◌-◌, ◌<◌, Bool, true, false, cond, Some, List, ◌∷◌, length, drop, get_or, refl, sym, ◌∙◌, ap, arith}
 use Rattle.std.proofs.lemmas.List.{drop_more}
-use Rattle.std.specs.Prelude.{option_map}
+use Rattle.std.specs.Prelude.{option_map, []}
+use Rattle.std.proofs.Math.Path.{fun_ext}
 use Rattle.std.specs.Str.{bytes_eq}
 use Rattle.hh_base.specs.declared.value.Kind.{Kind}
 use Rattle.module_tree.specs.declared.source.ParameterNode.{ParameterNode}
+use Rattle.link_faults.specs.declared.names.Meaning.{Meaning}
+use Rattle.link_faults.specs.declared.names.Names.{Names}
 use Rattle.link_faults.specs.Named.{Name, parameter_named}
+use Rattle.link_faults.specs.InnermostFirst.{IsScope, in_scope, place_in}
+use Rattle.link_faults.specs.Rows.{no_kinds}
+use Rattle.link_faults.specs.Meanings.{meaning_at, kind_of_signal}
 use Rattle.link_verdict.specs.Declarations.{kinds_of_parameters}
 
 abbrev kind_of : ParameterNode → Kind
@@ -36,3 +42,8 @@ one_more_kind parameters behind p q within at =
     ∙ ap (λ ps. kinds_of_parameters ps q) (ap (λ y. y ∷ drop (i + 1) parameters) at
     ∙ sym (drop_more parameters i p lt))
     ∙ ap (λ n. kinds_of_parameters (drop n parameters) q) (sym own)
+
+pub no_signals : (names : Names) → IsScope names.signals → in_scope names.signals ≡ []
+    → kind_of_signal names ≡ no_kinds
+no_signals names s none = fun_ext (λ q. ap (λ o. option_map (λ (m : Meaning). m.kind) (meaning_at names o))
+    (s.found q ∙ ap (λ ns. place_in ns q) none))

@@ -5,6 +5,7 @@ ghost use Rattle.indexmap.specs.IndexMap.{get_by_text};
 ghost use Rattle.module_tree.specs.Scopes.{interface_signals};
 ghost use Rattle.module_tree.specs.Callables.{modules_of};
 ghost use Rattle.link_faults.specs.Named.{Name as AName};
+ghost use Rattle.link_faults.specs.Faults.{earlier};
 ghost use Rattle.link_faults.specs.Earliest.{first_by};
 ghost use Rattle.link_faults.specs.InnermostFirst.{IsScope, in_scope, shown};
 ghost use Rattle.link_faults.specs.Meanings.{node_meaning, kind_of_signal, kind_of_parameter};
@@ -154,9 +155,9 @@ fn kinds_of_parameters(
 {
     let mut kinds = IndexMap::new(alloc);
     'parameters: for behind in 0..parameters.len() {
-        let at = parameters.len() - 1 - behind;
-        let key = String::from_str(alloc, parameters[at].name.as_str())?;
-        kinds.insert(key, parameters[at].kind)?;
+        let parameter = &parameters[parameters.len() - 1 - behind];
+        let key = String::from_str(alloc, parameter.name.as_str())?;
+        kinds.insert(key, parameter.kind)?;
     }
     Ok(kinds)
 }
