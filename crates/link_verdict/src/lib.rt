@@ -1,0 +1,2 @@
+//! The verdict on a module text: the first fault of names, kinds and runs, or none.
+#![tactic(auto)]
