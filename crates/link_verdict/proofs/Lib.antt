@@ -1,2 +1,3 @@
 pub mod PartRows
 pub mod TextRows
+pub mod CycleLaws

@@ -1,5 +1,5 @@
 -- The first fault of each part of a text is that of its rows, over all kinds.
-use Rattle.std.proofs.Common.{◌≡◌, ℕ, ◌+◌, ◌==◌, ◌&&◌, ◌||◌, Bool, true, false, cond, Option, Some, None, List, []}
+use Rattle.std.proofs.Common.{◌≡◌, ℕ, ◌==◌, ◌&&◌, ◌||◌, Bool, true, false, cond, Option, Some, None, List, []}
 use Rattle.std.proofs.Common.{◌∷◌, ◌++◌, length, map, refl, sym, ◌∙◌, ap, arith, not, suc}
 use Rattle.std.specs.Prelude.{option_map, is_some, is_none, filter}
 use Rattle.std.specs.List.{flat_map}
@@ -12,14 +12,13 @@ use Rattle.module_tree.specs.declared.source.NameAt.{NameAt}
 use Rattle.module_tree.specs.declared.source.ExprAt.{ExprAt}
 use Rattle.module_tree.specs.declared.source.SignalNode.{SignalNode}
 use Rattle.module_tree.specs.declared.source.Binding.{Binding}
-use Rattle.module_tree.specs.declared.source.InterfaceNode.{InterfaceNode}
 use Rattle.module_tree.specs.declared.source.AsyncNode.{AsyncNode}
 use Rattle.module_tree.specs.declared.source.ModuleNode.{ModuleNode}
-use Rattle.module_tree.specs.Scopes.{Signal, InScope, interface_signals}
-use Rattle.module_tree.specs.Parts.{StatementPart, Test, Times, Emission, Locals, Exit, Call, Start, Placed}
+use Rattle.module_tree.specs.Scopes.{Signal, InScope}
+use Rattle.module_tree.specs.Parts.{StatementPart, Test, Times, Emission, Locals, Exit, Call, Start}
 use Rattle.module_tree.specs.Parts.{signals_read, parameters_read, if_any}
 use Rattle.module_tree.specs.Callables.{Signature}
-use Rattle.module_tree.specs.LinkedFacts.{is_kind, is_input}
+use Rattle.module_tree.specs.LinkedFacts.{is_input}
 use Rattle.link_faults.specs.declared.fault.LinkKind.{LinkKind}
 use Rattle.link_faults.specs.declared.fault.LinkKind.TheVariants as fault
 use Rattle.link_faults.specs.declared.fault.LinkFault.{LinkFault}
@@ -27,22 +26,20 @@ use Rattle.link_faults.specs.declared.names.Meaning.{Meaning}
 use Rattle.link_faults.specs.Faults.{earlier}
 use Rattle.link_faults.specs.Earliest.{first_at, first_by}
 use Rattle.link_faults.specs.Named.{Name, signal_named, trap_named, module_named, signature_named}
-use Rattle.link_faults.specs.Named.{interface_named, is_named, first_ones}
+use Rattle.link_faults.specs.Named.{interface_named, is_named}
 use Rattle.link_faults.specs.SourceKinds.{Kinds, misfits_in, wrong_for, wrong_value}
 use Rattle.link_faults.specs.Judgements.{first_unknown, unknown_at}
 use Rattle.link_faults.specs.Meanings.{meaning, meant_in}
-use Rattle.link_faults.specs.PartFaults.{Meanings, kinds_by, first_read, first_emitted, first_carried}
-use Rattle.link_faults.specs.PartFaults.{first_emission, first_wrong}
-use Rattle.link_faults.specs.RunFaults.{first_arguments, first_answered, first_called, first_start}
+use Rattle.link_faults.specs.PartFaults.{kinds_by, first_read, first_emitted, first_carried}
+use Rattle.link_faults.specs.RunFaults.{first_arguments, first_answered, first_called}
 use Rattle.link_faults.specs.RunFaults.{means_input, means_emitted, kinds_differ, first_bound, first_implied}
-use Rattle.link_faults.specs.RunFaults.{left_name, first_right, first_bindings, first_unbound, first_in_run}
-use Rattle.link_faults.specs.RunFaults.{first_call}
+use Rattle.link_faults.specs.RunFaults.{left_name, first_bindings, first_unbound, first_in_run}
 use Rattle.link_faults.specs.CallableTables.{callable}
 use Rattle.link_faults.specs.Rows.{Program, here_if, unknown_among, no_kinds, kinds_in, repeated_in_statement}
 use Rattle.link_faults.specs.Rows.{unknown_in_statement, called, broken_out, started, wrong_in_statement}
 use Rattle.link_faults.specs.Rows.{wrong_emission, wrong_arguments, wrong_result, wrong_start, wrong_signal}
 use Rattle.link_faults.specs.Rows.{emits, in_run, emitted_by_callee, badly_bound, bad_left, is_in, is_emitted}
-use Rattle.link_faults.specs.Rows.{differ, unbound, interface_of, repeated, repeated_behind, name_of_signal}
+use Rattle.link_faults.specs.Rows.{differ, unbound, repeated, repeated_behind, name_of_signal}
 use Rattle.link_faults.specs.Walks.{first_of_part}
 use Rattle.link_faults.proofs.EarlierLaws.{earlier_none, earlier_turned, earlier_grouped, earlier_paired}
 use Rattle.link_faults.proofs.EarlierLaws.{first_at_joined, first_by_joined, first_by_both, first_at_each}

@@ -4,7 +4,6 @@ use Rattle.std.specs.Prelude.{option_map, is_some, false}
 use Rattle.std.specs.List.{Contains, flat_map}
 use Rattle.std.proofs.lemmas.List.{append-nil}
 use Rattle.hh_base.specs.declared.value.Pos.{Pos}
-use Rattle.hh_base.specs.declared.value.Kind.{Kind}
 use Rattle.module_tree.specs.declared.source.NameAt.{NameAt}
 use Rattle.module_tree.specs.declared.source.InterfaceNode.{InterfaceNode}
 use Rattle.module_tree.specs.declared.source.ParameterNode.{ParameterNode}
@@ -12,30 +11,31 @@ use Rattle.module_tree.specs.declared.source.ModuleNode.{ModuleNode}
 use Rattle.module_tree.specs.declared.source.BodyNode.{BodyNode}
 use Rattle.module_tree.specs.declared.source.Part.{Part}
 use Rattle.module_tree.specs.declared.source.Part.TheVariants as top
-use Rattle.module_tree.specs.Parts.{StatementPart, Placed, parts_of, signals_read, parameters_read}
-use Rattle.module_tree.specs.Callables.{Signature, modules_of, signatures_of}
+use Rattle.module_tree.specs.Parts.{Placed, parts_of, signals_read, parameters_read}
+use Rattle.module_tree.specs.Callables.{modules_of, signatures_of}
 use Rattle.link_faults.specs.declared.fault.LinkKind.{LinkKind}
 use Rattle.link_faults.specs.declared.fault.LinkKind.TheVariants as fault
 use Rattle.link_faults.specs.declared.fault.LinkFault.{LinkFault}
 use Rattle.link_faults.specs.Faults.{earlier}
 use Rattle.link_faults.specs.Earliest.{first_at, first_by}
 use Rattle.link_faults.specs.Named.{Name, parameter_named}
-use Rattle.link_faults.specs.SourceKinds.{Kinds, wrong_for}
+use Rattle.link_faults.specs.SourceKinds.{wrong_for}
 use Rattle.link_faults.specs.Judgements.{first_unknown}
 use Rattle.link_faults.specs.NameTables.{interface_name, name_of_parameter}
 use Rattle.link_faults.specs.CallableTables.{name_of_callable}
 use Rattle.link_faults.specs.TextTables.{name_of_module}
-use Rattle.link_faults.specs.Rows.{Program, no_kinds, in_parts, repeated, repeated_in_part, unknown_in_part}
-use Rattle.link_faults.specs.Rows.{wrong_in_part, wrong_signal, unknown_among, twice_declared, unknown_signal}
-use Rattle.link_faults.specs.Rows.{unknown_module, unknown_trap, unknown_body, kind_wrong, emits_input}
+use Rattle.link_faults.specs.Rows.{Program, no_kinds, repeated, repeated_in_part, unknown_in_part}
+use Rattle.link_faults.specs.Rows.{wrong_in_part, wrong_signal, unknown_among}
+use Rattle.link_faults.specs.Rows.{unknown_module, unknown_trap, unknown_body, emits_input}
 use Rattle.link_faults.specs.Rows.{bad_binding}
-use Rattle.link_faults.specs.FirstFault.{HasFault, IsVerdict, RunsInCycle}
+use Rattle.link_faults.specs.FirstFault.{HasFault, IsVerdict}
 use Rattle.link_faults.specs.Walks.{first_placed}
 use Rattle.link_faults.proofs.EarlierLaws.{earlier_none, earlier_turned, earlier_grouped, earlier_paired}
-use Rattle.link_faults.proofs.EarlierLaws.{first_at_joined, first_by_joined, first_by_both, first_at_each}
+use Rattle.link_faults.proofs.EarlierLaws.{first_at_joined, first_at_each}
 use Rattle.link_faults.proofs.VerdictLaw.{Table, all_kinds, first_is_verdict}
-use Rattle.link_verdict.specs.Declarations.{wrong_declared, first_in_interface, first_in_module}
+use Rattle.link_verdict.specs.Declarations.{first_in_interface}
 use Rattle.link_verdict.specs.Declarations.{kinds_of_parameters, first_in_body, first_in_declaration}
+use Rattle.link_verdict.specs.Cycles.{AreCycles}
 use Rattle.link_verdict.proofs.PartRows.{statement_rows, first_over, part_rows, unknown_first}
 
 abbrev Fault : Type 0
@@ -146,7 +146,7 @@ declared_first parts (top.Host h ∷ qs) = declared_first parts qs
 
 -- ---- a text, whose runs on a cycle stand at these positions
 
-abbrev module_names : Program → List (NameAt Name)
+abbrev pub module_names : Program → List (NameAt Name)
 module_names parts = map name_of_module (modules_of parts)
 
 abbrev callable_names : Program → List (NameAt Name)
@@ -215,11 +215,6 @@ no_others parts cycles =
     (λ (m : ModuleNode Name). none_of_any (parts_of m)) (modules_of parts))
     ∙ append-nil (cycles ++ flat_map (λ (q : Part Name). []) parts)
     ∙ ap (λ ps. cycles ++ ps) (none_of_any parts) ∙ append-nil cycles
-
--- these are the positions of the runs on a cycle
-pub record AreCycles (parts : Program) (cycles : List Pos) : Type 0 where
-  pub there : (p : Pos) → Contains cycles p → RunsInCycle parts p
-  pub all : (p : Pos) → RunsInCycle parts p → Contains cycles p
 
 has_row : (parts : Program) (cycles : List Pos) → AreCycles parts cycles → (k : LinkKind) (p : Pos)
     → Contains (text_rows parts cycles k) p → HasFault parts k p
