@@ -1,5 +1,5 @@
 -- A walker where the signals of an interface are in scope.
-use Rattle.std.proofs.Common.{◌≡◌, ℕ, ◌+◌, None, List, [], ◌∷◌, ◌++◌, map, length, refl, sym, ◌∙◌, ap, subst}
+use Rattle.std.proofs.Common.{◌≡◌, ℕ, ◌+◌, None, List, [], ◌∷◌, ◌++◌, map, length, refl, sym, ◌∙◌, ap}
 use Rattle.std.proofs.Common.{append_assoc, length-append}
 use Rattle.std.specs.Prelude.{Some, slice_get}
 use Rattle.std.proofs.Math.Path.{fun_ext}
@@ -21,7 +21,7 @@ now_shown pre [] n e = refl
 now_shown pre (d ∷ interface) n e =
     let whole = pre ++ node_meaning d ∷ map node_meaning interface in
     let here : slice_get whole n ≡ Some (node_meaning d) = ap (slice_get whole) e
-        ∙ at_seam pre (node_meaning d) (map node_meaning interface) in
+    ∙ at_seam pre (node_meaning d) (map node_meaning interface) in
     ap (λ m. record { name = d.signal.name; meaning = m } ∷ map (shown_by whole)
     (map shown (interface_from (n + 1) interface))) here
     ∙ ap (λ xs. record { name = d.signal.name; meaning = Some (node_meaning d) } ∷ xs)

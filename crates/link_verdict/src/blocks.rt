@@ -60,11 +60,7 @@ fn over_break(walker: &mut Walker, text: &Text<'_>, trap: &NameAt<Name>) -> Resu
     Ok(())
 }
 
-fn over_async(
-    walker: &mut Walker,
-    text: &Text<'_>,
-    node: &AsyncNode<Name>,
-) -> Result<(), NoMemory>
+fn over_async(walker: &mut Walker, text: &Text<'_>, node: &AsyncNode<Name>) -> Result<(), NoMemory>
     requires { IsText text.now }
     ensures { OnOk result (Follows text.now.parts.now (here (Start node.now)) walker.old walker.new) }
 {

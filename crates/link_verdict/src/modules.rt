@@ -186,12 +186,7 @@ pub fn first_in_body(alloc: Global, body: &BodyNode<Name>) -> Result<Option<Link
 }
 
 impl InText {
-    fn add(
-        &mut self,
-        alloc: Global,
-        text: &Text<'_>,
-        part: &Part<Name>,
-    ) -> Result<(), NoMemory>
+    fn add(&mut self, alloc: Global, text: &Text<'_>, part: &Part<Name>) -> Result<(), NoMemory>
         requires { IsText text.now }
         ensures first { OnOk result (self.new.first ≡ earlier self.old.first
             (first_in_declaration text.now.parts.now part.now)) }

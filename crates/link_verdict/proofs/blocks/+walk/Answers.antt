@@ -1,4 +1,4 @@
-use Rattle.std.proofs.Common.{◌≡◌, ◌+◌, Option, length, map, refl, sym, ◌∙◌, ap, subst}
+use Rattle.std.proofs.Common.{◌≡◌, ◌+◌, Option, length, refl, sym, ◌∙◌, ap, subst}
 use Rattle.std.specs.Prelude.{OnOk, option_map}
 use Rattle.module_tree.specs.declared.source.BlockNode.{BlockNode}
 use Rattle.module_tree.specs.Scopes.{with_signals, with_trap}
@@ -86,8 +86,8 @@ over_statement-returns-in_ok-otherwise-in-If t c =
     let block = c.in-If.block in
     let other = c.in-If.other in
     let walk : statement_walk c.args.statement.now ≡ then (then (here (Test x)) (block_walk block))
-        (if_there (option_map block_walk other)) =
-        ap statement_walk c.in-If.is ∙ walk_branches x block other in
+    (if_there (option_map block_walk other)) =
+    ap statement_walk c.in-If.is ∙ walk_branches x block other in
     subst (λ (w : Walk Name). Follows parts w c.args.walker.now c.otherwise.new.walker) (sym walk)
     (follows_then parts (then (here (Test x)) (block_walk block)) (if_there (option_map block_walk other))
     c.args.walker.now c.tested.new.walker c.otherwise.new.walker c.in_ok-tested-in-If.ensures
@@ -98,8 +98,8 @@ over_statement-returns-in-Signal t c =
     let signals = c.in-Signal.signals in
     let block = c.in-Signal.block in
     let walk : statement_walk c.args.statement.now ≡ then (here (Locals signals))
-        (locals_walk signals (block_walk block)) =
-        ap statement_walk c.in-Signal.is ∙ walk_signal signals block in
+    (locals_walk signals (block_walk block)) =
+    ap statement_walk c.in-Signal.is ∙ walk_signal signals block in
     subst (λ (w : Walk Name). OnOk c.within_signals.result (Follows c.args.text.now.parts.now w
     c.args.walker.now c.within_signals.new.walker))
     (ap (λ ss. then (here (Locals ss)) (locals_walk ss (block_walk block))) c.as_slice-in-Signal.ensures

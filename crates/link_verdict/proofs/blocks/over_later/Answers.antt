@@ -1,6 +1,6 @@
 use Rattle.std.proofs.Common.{sym, refl}
 use Rattle.std.proofs.lemmas.List.{append-nil}
-use Rattle.module_tree.specs.Parts.{Test, Times, here, then}
+use Rattle.module_tree.specs.Parts.{Test, Times, here}
 use Rattle.link_faults.specs.Walks.{Follows}
 use Rattle.link_faults.proofs.EarlierLaws.{earlier_none}
 use Rattle.link_faults.proofs.WalkLaws.{follows_here, follows_then}

@@ -1,4 +1,4 @@
-use Rattle.std.proofs.Common.{[], ◌++◌, length, ◌∙◌, ap, subst}
+use Rattle.std.proofs.Common.{◌++◌, length, ◌∙◌, ap, subst}
 use Rattle.std.specs.List.{flat_map}
 use Rattle.module_tree.specs.Scopes.{Declared}
 use Rattle.module_tree.specs.Parts.{parts_of}
@@ -15,8 +15,8 @@ returns-clause-first c =
     let m = c.args.node.now in
     let before : Declared = record { signals = length m.interface; traps = 0 } in
     let stands : Stands (interface_scope m.interface) c.in_ok-walker.walker =
-        subst (λ ds. Stands (interface_scope ds) c.in_ok-walker.walker) c.as_slice-2.ensures
-        c.in_ok-walker.ensures.stands in
+    subst (λ ds. Stands (interface_scope ds) c.in_ok-walker.walker) c.as_slice-2.ensures
+    c.in_ok-walker.ensures.stands in
     let passed = c.in_ok-over_block.ensures.passes (interface_scope m.interface) before stands in
     c.earlier.ensures ∙ ap (λ o. earlier o c.over_block.new.walker.first)
     (c.in_ok-own.ensures ∙ ap first_in_interface c.as_slice.ensures)
@@ -29,7 +29,7 @@ returns-clause-runs c =
     let m = c.args.node.now in
     let before : Declared = record { signals = length m.interface; traps = 0 } in
     let stands : Stands (interface_scope m.interface) c.in_ok-walker.walker =
-        subst (λ ds. Stands (interface_scope ds) c.in_ok-walker.walker) c.as_slice-2.ensures
-        c.in_ok-walker.ensures.stands in
+    subst (λ ds. Stands (interface_scope ds) c.in_ok-walker.walker) c.as_slice-2.ensures
+    c.in_ok-walker.ensures.stands in
     let passed = c.in_ok-over_block.ensures.passes (interface_scope m.interface) before stands in
     passed.runs ∙ ap (λ rs. rs ++ flat_map (runs_placed parts) (parts_of m)) c.in_ok-walker.ensures.runs
