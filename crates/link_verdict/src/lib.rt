@@ -2,4 +2,6 @@
 #![tactic(auto)]
 
 pub mod blocks;
+pub mod cycles;
+pub mod first;
 pub mod modules;
