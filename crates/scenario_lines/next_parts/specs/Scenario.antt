@@ -1,0 +1,100 @@
+-- A scenario: what each line of a text means. (This project's own.)
+use Rattle.std.specs.Prelude.{◌≡◌, ◌≢◌, ◌⊎◌, ℕ, ◌+◌, ◌<◌, ◌^◌, Bool, true, false, if◌then◌else◌, Some, List, [], ◌∷◌, ◌++◌, All, AllPairs, codes, length, slice_get}
+use Rattle.std.specs.List.{AllZip}
+use Rattle.std.specs.Str.{is_utf8}
+use Rattle.hh_base.specs.declared.value.Dir.{Dir}
+use Rattle.hh_base.specs.declared.value.Dir.TheVariants as dir
+use Rattle.hh_base.specs.declared.value.Kind.TheVariants as kind
+use Rattle.hh_base.specs.declared.value.Value.{Value}
+use Rattle.hh_base.specs.declared.value.Value.TheVariants as value
+use Rattle.hh_base.specs.Value.{is_valued, kind_of}
+use Rattle.hh_base.specs.Literal.{IsNumber, IsLiteral}
+use Rattle.hh_term.specs.declared.program.SignalDecl.{SignalDecl}
+use Rattle.reaction_run.specs.declared.event.Input.{Input}
+use Rattle.scenario_lines.specs.declared.line.Line.{Line}
+use Rattle.scenario_lines.specs.declared.line.Line.TheVariants.{React, Work, Notify, Reset, Settle}
+use Rattle.scenario_lines.specs.declared.line.Mode.{Mode}
+use Rattle.scenario_lines.specs.declared.line.Mode.TheVariants.{Play, Serve}
+use Rattle.scenario_lines.specs.Lines.{lines_of, parts_of, is_skipped}
+
+-- an id: a run of digits within 64 bits
+pub record IsId (bs : List ℕ) (n : ℕ) : Type 0 where
+  pub number : IsNumber bs n
+  pub small : n < 2 ^ 64
+
+-- the literal of a value, or `unit`
+pub record IsValue (bs : List ℕ) (v : Value) : Type 0 where
+  pub utf8 : is_utf8 bs ≡ true
+  pub literal : IsLiteral bs v
+
+-- the environment gives the signal
+abbrev pub is_given : Dir → Bool
+is_given dir.Input = true
+is_given dir.Both = true
+is_given _ = false
+
+-- a name and a literal in parentheses
+pub record IsCarried (d : SignalDecl) (part : List ℕ) (v : Value) : Type 0 where
+  pub name : List ℕ
+  pub named : d.name ≡ Some name
+  pub literal : List ℕ
+  pub part_is : part ≡ name ++ codes "(" ++ literal ++ codes ")"
+  pub value : IsValue literal v
+  pub kind : kind_of v ≡ d.kind
+
+-- a pure signal is given by its name alone, a valued one with a value of its kind
+abbrev pub Gives : SignalDecl → List ℕ → Value → Type 0
+Gives d part v =
+    ((d.kind ≡ kind.Pure) × (d.name ≡ Some part) × (v ≡ value.Unit)) ⊎ ((is_valued d.kind ≡ true) × IsCarried d part v)
+
+-- the part gives this input
+pub record IsInput (signals : List SignalDecl) (part : List ℕ) (i : Input) : Type 0 where
+  pub signal : SignalDecl
+  pub at : slice_get signals i.signal ≡ Some signal
+  pub given : is_given signal.dir ≡ true
+  pub gives : Gives signal part i.value
+
+-- the parts give these inputs, in their order, and no signal twice
+pub record AreInputs (signals : List SignalDecl) (parts : List (List ℕ)) (inputs : List Input) : Type 0 where
+  pub each : AllZip (IsInput signals) parts inputs
+  pub once : AllPairs (λ i j. i.signal ≢ j.signal) inputs
+
+-- the word of an answer: `notify` where it is the last one
+abbrev pub answer_word : Bool → List ℕ
+answer_word true = codes "notify"
+answer_word false = codes "more"
+
+-- the forms of lines: the parts are those of the line
+abbrev pub IsLine : Mode → List SignalDecl → List (List ℕ) → Line → Type 0
+IsLine mode signals parts (React inputs) = (given : List (List ℕ)) × (parts ≡ codes "react" ∷ given) × AreInputs signals given inputs
+IsLine mode signals parts (Work id) = (mode ≡ Play) × (digits : List ℕ) × (parts ≡ codes "work" ∷ digits ∷ []) × IsId digits id
+IsLine mode signals parts (Notify a) =
+    (digits : List ℕ) × (literal : List ℕ) × (parts ≡ answer_word a.last ∷ digits ∷ literal ∷ []) × IsId digits a.id × IsValue literal a.value
+IsLine mode signals parts Reset = parts ≡ codes "reset" ∷ []
+IsLine mode signals parts Settle = (mode ≡ Serve) × (parts ≡ codes "settle" ∷ [])
+
+-- the lines that a text's lines mean, where those that are skipped mean none
+abbrev pub Mean : Mode → List SignalDecl → List (List ℕ) → List Line → Type 0
+Mean mode signals [] lines = lines ≡ []
+Mean mode signals (l ∷ ls) lines =
+    ((is_skipped (parts_of l) ≡ true) × Mean mode signals ls lines)
+    ⊎ ((is_skipped (parts_of l) ≡ false)
+    × ((first : Line) × (rest : List Line) × (lines ≡ first ∷ rest) × IsLine mode signals (parts_of l) first × Mean mode signals ls rest))
+
+abbrev pub IsScenario : Mode → List SignalDecl → List ℕ → List Line → Type 0
+IsScenario mode signals text lines = Mean mode signals (lines_of text) lines
+
+-- a line that is not skipped and has no form
+pub record IsRefused (mode : Mode) (signals : List SignalDecl) (line : List ℕ) : Type 0 where
+  pub counts : is_skipped (parts_of line) ≡ false
+  pub formless : (l : Line) → IsLine mode signals (parts_of line) l → ⊥
+
+-- line n, counted from 1, is refused, and none before it
+pub record IsFirstRefused (mode : Mode) (signals : List SignalDecl) (text : List ℕ) (n : ℕ) : Type 0 where
+  pub before : List (List ℕ)
+  pub line : List ℕ
+  pub behind : List (List ℕ)
+  pub lines : lines_of text ≡ before ++ line ∷ behind
+  pub counted : n ≡ length before + 1
+  pub read : (meant : List Line) × Mean mode signals before meant
+  pub refused : IsRefused mode signals line

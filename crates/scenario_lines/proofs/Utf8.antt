@@ -1,0 +1,12 @@
+-- The test for UTF-8.
+use Rattle.std.proofs.Common.{◌≡◌, ℕ, true, false, List, refl}
+use Rattle.std.specs.Str.{is_utf8, IsUtf8}
+use Rattle.std.proofs.lemmas.Str.{IsUtf8-from_is_utf8, is_utf8-from_IsUtf8}
+
+pub not_utf8 : (bs : List ℕ) → (IsUtf8 bs → ⊥) → is_utf8 bs ≡ false
+not_utf8 bs h =
+    elim (is_utf8 bs) as (λ b. is_utf8 bs ≡ b
+    → b ≡ false) [ true ↦ λ e. absurd (h (IsUtf8-from_is_utf8 bs e)) | false ↦ λ _. refl ] refl
+
+pub utf8_from : (bs : List ℕ) → IsUtf8 bs → is_utf8 bs ≡ true
+utf8_from bs h = is_utf8-from_IsUtf8 bs h

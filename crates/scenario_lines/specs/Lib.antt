@@ -1,0 +1,4 @@
+pub mod Lines
+pub mod Literals
+pub mod Print
+pub mod Scenario
