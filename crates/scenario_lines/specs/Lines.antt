@@ -1,5 +1,5 @@
 -- The lines of a text, and the parts of a line. (This project's own.)
-use Rattle.std.specs.Prelude.{◌≡◌, ◌≢◌, ℕ, ◌++◌, All, take, drop, ◌==◌, ◌&&◌, Bool, true, false, cond}
+use Rattle.std.specs.Prelude.{◌≡◌, ℕ, take, drop, ◌==◌, ◌&&◌, Bool, true, false}
 use Rattle.std.specs.Prelude.{if◌then◌else◌, List, [], ◌∷◌}
 use Rattle.scenario_lines.specs.declared.parts.Place.{Place}
 use Rattle.scenario_lines.specs.declared.parts.Place.TheVariants.{Between, Within, Quoted, Escaped}
@@ -37,17 +37,6 @@ abbrev pub without_last_return : List ℕ → List ℕ
 without_last_return [] = []
 without_last_return (b ∷ []) = if b == carriage_return then [] else b ∷ []
 without_last_return (b ∷ c ∷ bs) = b ∷ without_last_return (c ∷ bs)
-
--- empty, or the byte stands first
-abbrev pub StartsWith : ℕ → List ℕ → Type 0
-StartsWith byte [] = Unit {0}
-StartsWith byte (b ∷ bytes) = b ≡ byte
-
--- what stands before the first LF, and the rest
-pub record IsCut (text front back : List ℕ) : Type 0 where
-  pub whole : text ≡ front ++ back
-  pub lacks : All (λ b. b ≢ line_feed) front
-  pub starts : StartsWith line_feed back
 
 -- where the byte behind this one stands, if this one is of a part
 abbrev pub behind : Place → ℕ → Place

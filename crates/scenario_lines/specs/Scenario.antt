@@ -1,11 +1,8 @@
 -- A scenario: what each line of a text means. (This project's own.)
-use Rattle.std.specs.Prelude.{◌≡◌, ◌≢◌, ◌⊎◌, ℕ, ◌+◌, Bool, true, false, if◌then◌else◌, Some, List, [], ◌∷◌}
-use Rattle.std.specs.Prelude.{◌++◌, All, AllPairs, codes, length, slice_get}
+use Rattle.std.specs.Prelude.{◌≡◌, ◌≢◌, ◌⊎◌, ℕ, ◌+◌, Bool, true, false, List, [], ◌∷◌}
+use Rattle.std.specs.Prelude.{◌++◌, AllPairs, codes, length, map}
 use Rattle.std.specs.List.{AllZip}
-use Rattle.hh_base.specs.declared.value.Dir.{Dir}
-use Rattle.hh_base.specs.declared.value.Dir.TheVariants as dir
 use Rattle.hh_base.specs.declared.value.Kind.TheVariants as kind
-use Rattle.hh_base.specs.declared.value.Value.{Value}
 use Rattle.hh_base.specs.declared.value.Value.TheVariants as value
 use Rattle.hh_base.specs.Value.{is_valued, kind_of}
 use Rattle.hh_term.specs.declared.program.SignalDecl.{SignalDecl}
@@ -14,41 +11,40 @@ use Rattle.scenario_lines.specs.declared.line.Line.{Line}
 use Rattle.scenario_lines.specs.declared.line.Line.TheVariants.{React, Work, Notify, Reset, Settle}
 use Rattle.scenario_lines.specs.declared.line.Mode.{Mode}
 use Rattle.scenario_lines.specs.declared.line.Mode.TheVariants.{Play, Serve}
+use Rattle.scenario_lines.specs.Interface.{IsGiven}
 use Rattle.scenario_lines.specs.Literals.{IsId, IsValue}
 use Rattle.scenario_lines.specs.Lines.{lines_of, parts_of, is_skipped}
 
--- the environment gives the signal
-abbrev pub is_given : Dir → Bool
-is_given dir.Input = true
-is_given dir.Both = true
-is_given _ = false
+-- a pure signal is given by its name alone
+pub record GivesPure (signals : List SignalDecl) (part : List ℕ) (i : Input) : Type 0 where
+  pub signal : SignalDecl
+  pub given : IsGiven signals part i.signal signal
+  pub kind : signal.kind ≡ kind.Pure
+  pub value : i.value ≡ value.Unit
 
--- a name and a literal in parentheses
-pub record IsCarried (d : SignalDecl) (part : List ℕ) (v : Value) : Type 0 where
+-- a valued one by its name and, in parentheses, the literal of a value of its kind
+pub record GivesValue (signals : List SignalDecl) (part : List ℕ) (i : Input) : Type 0 where
+  pub signal : SignalDecl
   pub name : List ℕ
-  pub named : d.name ≡ Some name
+  pub given : IsGiven signals name i.signal signal
   pub literal : List ℕ
   pub part_is : part ≡ name ++ codes "(" ++ literal ++ codes ")"
-  pub value : IsValue literal v
-  pub kind : kind_of v ≡ d.kind
-
--- a pure signal is given by its name alone, a valued one with a value of its kind
-abbrev pub Gives : SignalDecl → List ℕ → Value → Type 0
-Gives d part v =
-    ((d.kind ≡ kind.Pure) × (d.name ≡ Some part) × (v ≡ value.Unit)) ⊎ ((is_valued d.kind ≡ true)
-    × IsCarried d part v)
+  pub value : IsValue literal i.value
+  pub valued : is_valued signal.kind ≡ true
+  pub kind : kind_of i.value ≡ signal.kind
 
 -- the part gives this input
-pub record IsInput (signals : List SignalDecl) (part : List ℕ) (i : Input) : Type 0 where
-  pub signal : SignalDecl
-  pub at : slice_get signals i.signal ≡ Some signal
-  pub given : is_given signal.dir ≡ true
-  pub gives : Gives signal part i.value
+abbrev pub IsInput : List SignalDecl → List ℕ → Input → Type 0
+IsInput signals part i = GivesPure signals part i ⊎ GivesValue signals part i
+
+-- the signals of inputs
+abbrev pub signals_in : List Input → List ℕ
+signals_in inputs = map (λ i. i.signal) inputs
 
 -- the parts give these inputs, in their order, and no signal twice
 pub record AreInputs (signals : List SignalDecl) (parts : List (List ℕ)) (inputs : List Input) : Type 0 where
   pub each : AllZip (IsInput signals) parts inputs
-  pub once : AllPairs (λ i j. i.signal ≢ j.signal) inputs
+  pub once : AllPairs (λ s t. s ≢ t) (signals_in inputs)
 
 -- the word of an answer: `notify` where it is the last one
 abbrev pub answer_word : Bool → List ℕ

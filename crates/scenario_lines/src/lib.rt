@@ -1,7 +1,11 @@
-//! Scenarios of the whole language: the lines that a machine is given, and the print of what it answers.
+//! Scenarios of the whole language: the lines that a machine is given.
 #![tactic(auto)]
 
+mod command;
+mod cut;
+mod interface;
 pub mod line;
-pub mod literals;
-pub mod parts;
-pub mod print;
+mod lines;
+mod literals;
+mod parts;
+pub mod read;
