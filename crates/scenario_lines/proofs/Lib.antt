@@ -1,0 +1,11 @@
+pub mod Cuts
+pub mod Forms
+pub mod Inputs
+pub mod Lining
+pub mod Meaning
+pub mod Numbers
+pub mod Numbering
+pub mod Parting
+pub mod Programs
+pub mod Taking
+pub mod Words

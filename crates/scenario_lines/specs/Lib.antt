@@ -1,0 +1,9 @@
+pub mod Cut
+pub mod Index
+pub mod Interface
+pub mod Lines
+pub mod Literals
+pub mod Named
+pub mod Reader
+pub mod Scenario
+pub mod Tells
