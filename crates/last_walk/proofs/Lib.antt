@@ -3,3 +3,4 @@ pub mod Noting
 pub mod Scoping
 pub mod Stopping
 pub mod Instances
+pub mod Beginning

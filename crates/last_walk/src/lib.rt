@@ -5,3 +5,4 @@ pub mod completion;
 pub mod instance;
 pub mod last_pass;
 pub mod touch;
+pub mod whole;
