@@ -5,14 +5,16 @@ ghost use Rattle.host_expr.specs.Environment.{env_of};
 ghost use Rattle.hh_term.specs.MustCan.{table_of};
 ghost use Rattle.hh_term.specs.ProgramView.{kernel_of};
 ghost use Rattle.hh_term.specs.Views.{control_in};
-ghost use Rattle.last_walk.specs.Whole.{Runs};
+ghost use Rattle.last_walk.specs.Whole.{RanBy, Runs};
 ghost use Rattle.status_table.specs.TableView.{cells_in};
 ghost use Rattle.status_table.specs.Walking.{Fits};
 ghost use Rattle.status_table.specs.WholeProgram.{program_flat_step};
 
+use crate::completion::Completion;
 use crate::last_pass::LastPass;
+use crate::walk::{Place, resume, start};
 use hh_base::value::NoMemory;
-use hh_term::mark::{Mark, Marked};
+use hh_term::mark::{Control, Mark, Marked};
 use hh_term::program::Program;
 use status_table::state::Statuses;
 use std::alloc::Global;
@@ -22,6 +24,18 @@ use std::alloc::Global;
 pub struct Ran {
     pub code: Option<u16>,
     pub next: Option<Mark>,
+}
+
+fn run_of(end: Option<Completion>) -> Option<Ran>
+    ensures { RanBy end result }
+{
+    match end {
+        Some(Completion { code, next }) => Some(Ran {
+            code: Some(code),
+            next,
+        }),
+        None => None,
+    }
 }
 
 /// Walks the program where its control rests. The answer is None where the status or the value of a local signal
@@ -43,5 +57,19 @@ pub fn walk(
         (table_of (kernel_of program.now)) (cells_in table.now) (kernel_of program.now).statement
         (control_in marked.now) (env_of pass.old.cells.signals.items)) r pass.old pass.new) }
 {
-    Err(NoMemory)
+    let at = Place { depth: 0, level: 0 };
+    match marked.control() {
+        Control::Fresh => {
+            let end = start(alloc, program, table, program.term(), at, pass)?;
+            Ok(run_of(end))
+        }
+        Control::At(mark) => {
+            let end = resume(alloc, program, table, program.term(), mark, at, pass)?;
+            Ok(run_of(end))
+        }
+        Control::Ended => Ok(Some(Ran {
+            code: None,
+            next: None,
+        })),
+    }
 }
