@@ -1,5 +1,6 @@
 -- What the walk over a part asks for holds behind the walk over an earlier part, and in a scope.
-use Rattle.std.proofs.Common.{◌≡◌, refl, sym, ap, ◌∙◌, subst, ℕ, ◌≤◌, true, false, Option, Some, None, [], length}
+use Rattle.std.proofs.Common.{◌≡◌, refl, sym, ap, ◌∙◌, subst, ℕ, ◌≤◌, ◌<◌, true, Option, Some, None, []}
+use Rattle.std.proofs.Common.{length}
 use Rattle.std.proofs.Math.ListN.{length-set}
 use Rattle.host_expr.specs.declared.cell.SigCell.{SigCell}
 use Rattle.hh_term.specs.Statement.{Statement}
@@ -53,10 +54,9 @@ kept_both b0 b1 b2 h g = record {
   emitted = g.emitted ∙ h.emitted;
 }
 
-module _ (levels d : ℕ) (p : Statement) (b0 b1 : LastPass) where
-  pub asked_fits : Kept b0 b1 → Fits (length b0.cells.signals.items) levels d p →
-      Fits (length b1.cells.signals.items) levels d p
-  asked_fits k f = subst (λ n. Fits n levels d p) (sym k.signals) f
+pub asked_fits : (levels d : ℕ) (p : Statement) (b0 b1 : LastPass) → Kept b0 b1 →
+    Fits (length b0.cells.signals.items) levels d p → Fits (length b1.cells.signals.items) levels d p
+asked_fits levels d p b0 b1 k f = subst (λ n. Fits n levels d p) (sym k.signals) f
 
 pub asked_emitted : (b0 b1 : LastPass) → Kept b0 b1 → length b0.emitted.items ≡ length b0.cells.signals.items →
     length b1.emitted.items ≡ length b1.cells.signals.items
@@ -65,6 +65,18 @@ asked_emitted b0 b1 k e = k.emitted ∙ e ∙ sym k.signals
 pub asked_declared : (n : ℕ) (b0 b1 : LastPass) → Kept b0 b1 → length b0.cells.signals.items ≤ n →
     length b1.cells.signals.items ≤ n
 asked_declared n b0 b1 k e = subst (λ m. m ≤ n) (sym k.signals) e
+
+-- all that it asks for
+pub asked : (levels declared d : ℕ) (p q : Statement) (b0 b1 : LastPass) → q ≡ p → Kept b0 b1 →
+    Fits (length b0.cells.signals.items) levels d p → length b0.emitted.items ≡ length b0.cells.signals.items →
+    b0.cells.args.items ≡ [] → length b0.cells.signals.items ≤ declared → d < levels →
+    Fits (length b1.cells.signals.items) levels d q ×
+    ((length b1.emitted.items ≡ length b1.cells.signals.items) ×
+    ((b1.cells.args.items ≡ []) × ((length b1.cells.signals.items ≤ declared) × (d < levels))))
+asked levels declared d p q b0 b1 same k f e g h l = (
+    subst (Fits (length b1.cells.signals.items) levels d) (sym same) (asked_fits levels d p b0 b1 k f),
+    (asked_emitted b0 b1 k e, (k.args ∙ g, (asked_declared declared b0 b1 k h, l))),
+  )
 
 pub kept_same : (b : LastPass) → Kept b b
 kept_same b = record { signals = refl; args = refl; emitted = refl }

@@ -1,5 +1,6 @@
 -- Where the last walk begins.
-use Rattle.std.proofs.Common.{◌≡◌, sym, ap, ◌∙◌, subst, ℕ, zero, suc, ◌+◌, Some, List, [], ◌∷◌, ◌++◌, length, slice_get, length-append}
+use Rattle.std.proofs.Common.{◌≡◌, ap, ◌∙◌, subst, ℕ, zero, suc, ◌+◌, Some, List, [], ◌∷◌, ◌++◌, slice_get}
+use Rattle.std.proofs.Common.{length-append}
 use Rattle.last_walk.specs.declared.last_pass.Emitted.{Emitted}
 use Rattle.last_walk.specs.LastWalk.{Counts}
 use Rattle.last_walk.specs.Whole.{NoEmissions}

@@ -1,5 +1,5 @@
 -- What a walk over the statement did, as what the program did.
-use Rattle.std.proofs.Common.{◌≡◌, refl, sym, ap, ◌∙◌, subst, ℕ, Option, Some, None}
+use Rattle.std.proofs.Common.{◌≡◌, sym, ap, ◌∙◌, subst, Option, Some, None}
 use Rattle.host_expr.specs.Environment.{env_of}
 use Rattle.hh_term.specs.Statement.{Statement}
 use Rattle.hh_term.specs.Selection.{Selection, Control, Fresh, At, Ended, Start, Resume}

@@ -1,24 +1,23 @@
 -- What a walk over a statement does, from what walks over its parts do.
-use Rattle.std.proofs.Common.{◌≡◌, refl, sym, ap, ◌∙◌, subst, ℕ, ◌+◌, ◌<◌, Bool, true, false, ◌&&◌, Option, Some, None, []}
-use Rattle.std.proofs.Common.{length, add-one}
-use Rattle.hh_base.specs.declared.value.Value.{Value}
+use Rattle.std.proofs.Common.{◌≡◌, refl, sym, subst, ℕ, ◌<◌, Bool, true, false, ◌&&◌, Option, Some, None, []}
+use Rattle.std.proofs.Common.{length}
 use Rattle.host_expr.specs.declared.cell.SigCell.{SigCell}
 use Rattle.host_expr.specs.Expression.{Expression}
 use Rattle.host_expr.specs.Environment.{Env, env_of, is_decided, is_known}
 use Rattle.host_expr.specs.Evaluation.{eval_of}
-use Rattle.hh_term.specs.Statement.{Statement, If, Suspend, Seq, Par, Loop, Trap, Local}
-use Rattle.hh_term.specs.Selection.{Selection, First, Second, Both, Inside, Scope, Task, Start, Resume}
+use Rattle.hh_term.specs.Statement.{Statement, If, Suspend}
+use Rattle.hh_term.specs.Selection.{Selection, First, Second, Inside, Task, Start, Resume}
 use Rattle.hh_term.specs.MustCan.{Table}
-use Rattle.hh_term.specs.Step.{Stepped, wrap, then_start, beside, completes, mark_map, scope_mark, trap_step, ◌>>=◌}
-use Rattle.status_table.specs.Flat.{Cells, cell_with}
+use Rattle.hh_term.specs.Step.{Stepped, wrap, then_start, beside, completes, mark_map, scope_mark, ◌>>=◌}
+use Rattle.status_table.specs.Flat.{Cells}
 use Rattle.status_table.specs.FlatStep.{flat_step, local_in}
 use Rattle.last_walk.specs.declared.completion.Completion.{Completion}
 use Rattle.last_walk.specs.declared.completion.Part.TheVariants as part
 use Rattle.last_walk.specs.declared.last_pass.Outer.{Outer}
 use Rattle.last_walk.specs.declared.last_pass.LastPass.{LastPass}
-use Rattle.last_walk.specs.LastWalk.{Did, Walked, Wrapped, Trapped, Tested, Beside, Entered, Left, in_part, ends_at}
+use Rattle.last_walk.specs.LastWalk.{Did, Walked, Wrapped, Tested, Beside, Entered, Left, in_part, ends_at}
 use Rattle.last_walk.specs.LastWalk.{selection_at, held_step}
-use Rattle.last_walk.proofs.Noting.{wrap_did, trap_did, stop_did, go_did, test_open, test_holds, test_fails, beside_did}
+use Rattle.last_walk.proofs.Noting.{wrap_did, stop_did, go_did, test_open, test_holds, test_fails, beside_did}
 use Rattle.last_walk.proofs.Noting.{first_open, second_open}
 use Rattle.last_walk.proofs.Scoping.{local_unsolved, local_open, local_did, completes_done}
 

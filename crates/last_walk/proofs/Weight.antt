@@ -1,7 +1,7 @@
 -- The measure by which a walk ends: how many statements there are in a statement.
-use Rattle.std.proofs.Common.{◌≡◌, sym, subst, ℕ, suc, ◌+◌, ◌<◌, arith}
+use Rattle.std.proofs.Common.{◌≡◌, sym, subst, ℕ, ◌+◌, ◌<◌, arith}
 use Rattle.host_expr.specs.Expression.{Expression}
-use Rattle.hh_term.specs.Statement.{Statement, Nothing, Pause, Emit, If, Suspend, Seq, Par, Loop, Trap, Exit, Local, Async}
+use Rattle.hh_term.specs.Statement.{Statement, If, Suspend, Seq, Par, Loop, Trap, Local}
 
 abbrev pub weight : Statement → ℕ
 weight (If e p q) = weight p + weight q + 1

@@ -1,8 +1,7 @@
-use Rattle.std.proofs.Common.{◌≡◌, refl, sym, ap, ◌∙◌, subst, false, true, Some, None, [], length, add-one, suc, rules, ◌<◌, ◌≤◌, ◌+◌, arith, not}
-use Rattle.std.proofs.Common.{◌&&◌}
+use Rattle.std.proofs.Common.{◌≡◌, sym, ap, ◌∙◌, subst, false, true, Some, None, length, add-one, suc, rules}
+use Rattle.std.proofs.Common.{◌<◌, ◌+◌, arith}
 use Rattle.host_expr.specs.Expression.{expression_of, optional_expression}
-use Rattle.host_expr.specs.Environment.{env_of, is_decided, is_known}
-use Rattle.host_expr.specs.Evaluation.{eval_of}
+use Rattle.host_expr.specs.Environment.{env_of}
 use Rattle.hh_term.specs.Statement.{Emit, If, Suspend, Seq, Par, Loop, Trap, Local, Async}
 use Rattle.hh_term.specs.Selection.{Start, Resume, First, Second, Both, Inside, Scope, AtAsync}
 use Rattle.hh_term.specs.MustCan.{table_of}
@@ -15,14 +14,19 @@ use Rattle.status_table.specs.FlatStep.{flat_step}
 use Rattle.last_walk.specs.LastWalk.{Walked, in_part}
 use Rattle.last_walk.specs.declared.completion.Part.TheVariants as part
 use Rattle.last_walk.proofs.Noting.{wrap_did, trap_did}
-use Rattle.last_walk.proofs.Walks.{walked_as, resumed_as, no_completion, suspend_open, suspend_holds, suspend_fails}
+use Rattle.last_walk.proofs.Walks.{walked_as, resumed_as, no_completion, suspend_open, suspend_holds}
+use Rattle.last_walk.proofs.Walks.{suspend_fails}
 use Rattle.last_walk.proofs.Walks.{goes, stops, beside_first_open, beside_second_open, both, first_alone_open}
-use Rattle.last_walk.proofs.Walks.{second_alone_open, first_alone, second_alone, scope_unsolved, scope_open, scope_walked}
-use Rattle.last_walk.proofs.Unwalked.{async_unwalked, if_unwalked, suspend_unwalked, seq_unwalked, par_unwalked}
+use Rattle.last_walk.proofs.Walks.{second_alone_open, first_alone, second_alone, scope_unsolved, scope_open}
+use Rattle.last_walk.proofs.Walks.{scope_walked}
+use Rattle.last_walk.proofs.Unwalked.{async_unwalked, if_unwalked, suspend_unwalked, seq_unwalked}
+use Rattle.last_walk.proofs.Unwalked.{par_unwalked}
 use Rattle.last_walk.proofs.Unwalked.{loop_unwalked, trap_unwalked, local_unwalked}
-use Rattle.last_walk.proofs.Asking.{end_keeps, step_keeps, scope_keeps, fault_keeps, kept_both, asked_fits, asked_emitted}
-use Rattle.last_walk.proofs.Asking.{asked_declared, kept_same}
-use Rattle.last_walk.proofs.Weight.{weight, below, if_first, if_second, in_suspend, seq_first, seq_second, par_first, par_second}
+use Rattle.last_walk.proofs.Asking.{end_keeps, step_keeps, scope_keeps, fault_keeps, kept_both, asked}
+use Rattle.last_walk.proofs.Asking.{asked_fits}
+use Rattle.last_walk.proofs.Asking.{asked_emitted, asked_declared, kept_same}
+use Rattle.last_walk.proofs.Weight.{weight, below, if_first, if_second, in_suspend, seq_first, seq_second}
+use Rattle.last_walk.proofs.Weight.{par_first, par_second}
 use Rattle.last_walk.proofs.Weight.{in_loop, in_trap, in_local}
 use Rattle.last_walk.proofs.walk.+resume.Goals as goal
 use Rattle.last_walk.proofs.walk.+resume.Goals.{in_default-via-in-Async+in_default}
@@ -357,14 +361,9 @@ resume-requires t c =
         below (statement_of c.args.term.now) (If (expression_of c.in-If-First.field-0-0) (statement_of c.deref.result.now) (statement_of c.in-If-First.field-2-0.value)) (statement_of c.deref.result.now)
         (ap node_statement c.in-If-First.is-0 ∙ ap (λ x. (If (expression_of c.in-If-First.field-0-0) (statement_of x) (statement_of c.in-If-First.field-2-0.value))) (sym c.deref.ensures)) (if_first (expression_of c.in-If-First.field-0-0) (statement_of c.deref.result.now) (statement_of c.in-If-First.field-2-0.value)) in (
       search (rules, w),
-      (
-        subst (λ x. Fits (length b1.cells.signals.items) rows at.depth (statement_of x)) (sym c.deref.ensures)
-            (asked_fits rows at.depth (statement_of c.in-If-First.p.value) b0 b1 kept fits.0),
-        (
-          asked_emitted b0 b1 kept c.requires.emitted,
-          (kept.args ∙ c.requires.args, (asked_declared declared b0 b1 kept c.requires.declared, c.requires.depth)),
-        ),
-      ),
+      asked rows declared at.depth (statement_of c.in-If-First.p.value) (statement_of c.deref.result.now) b0 b1
+          (ap statement_of c.deref.ensures) kept fits.0 c.requires.emitted c.requires.args c.requires.declared
+          (c.requires.depth),
     )
 
 pub resume-requires-in-If-Second : goal.resume-requires-in-If-Second
@@ -382,14 +381,9 @@ resume-requires-in-If-Second t c =
         below (statement_of c.args.term.now) (If (expression_of c.in-If-Second.field-0-0) (statement_of c.in-If-Second.field-1-0.value) (statement_of c.deref-in-If-Second.result.now)) (statement_of c.deref-in-If-Second.result.now)
         (ap node_statement c.in-If-Second.is-0 ∙ ap (λ x. (If (expression_of c.in-If-Second.field-0-0) (statement_of c.in-If-Second.field-1-0.value) (statement_of x))) (sym c.deref-in-If-Second.ensures)) (if_second (expression_of c.in-If-Second.field-0-0) (statement_of c.in-If-Second.field-1-0.value) (statement_of c.deref-in-If-Second.result.now)) in (
       search (rules, w),
-      (
-        subst (λ x. Fits (length b1.cells.signals.items) rows at.depth (statement_of x)) (sym c.deref-in-If-Second.ensures)
-            (asked_fits rows at.depth (statement_of c.in-If-Second.q.value) b0 b1 kept fits.1),
-        (
-          asked_emitted b0 b1 kept c.requires.emitted,
-          (kept.args ∙ c.requires.args, (asked_declared declared b0 b1 kept c.requires.declared, c.requires.depth)),
-        ),
-      ),
+      asked rows declared at.depth (statement_of c.in-If-Second.q.value) (statement_of c.deref-in-If-Second.result.now) b0 b1
+          (ap statement_of c.deref-in-If-Second.ensures) kept fits.1 c.requires.emitted c.requires.args c.requires.declared
+          (c.requires.depth),
     )
 
 pub resume-requires-in-Some-false : goal.resume-requires-in-Some-false
@@ -407,14 +401,9 @@ resume-requires-in-Some-false t c =
         below (statement_of c.args.term.now) (Suspend (expression_of c.in-Suspend-Inside.condition) (statement_of c.deref-in-Some-false.result.now)) (statement_of c.deref-in-Some-false.result.now)
         (ap node_statement c.in-Suspend-Inside.is-0 ∙ ap (λ x. (Suspend (expression_of c.in-Suspend-Inside.condition) (statement_of x))) (sym c.deref-in-Some-false.ensures)) (in_suspend (expression_of c.in-Suspend-Inside.condition) (statement_of c.deref-in-Some-false.result.now)) in (
       search (rules, w),
-      (
-        subst (λ x. Fits (length b1.cells.signals.items) rows at.depth (statement_of x)) (sym c.deref-in-Some-false.ensures)
-            (asked_fits rows at.depth (statement_of c.in-Suspend-Inside.p.value) b0 b1 kept fits),
-        (
-          asked_emitted b0 b1 kept c.requires.emitted,
-          (kept.args ∙ c.requires.args, (asked_declared declared b0 b1 kept c.requires.declared, c.requires.depth)),
-        ),
-      ),
+      asked rows declared at.depth (statement_of c.in-Suspend-Inside.p.value) (statement_of c.deref-in-Some-false.result.now) b0 b1
+          (ap statement_of c.deref-in-Some-false.ensures) kept fits c.requires.emitted c.requires.args c.requires.declared
+          (c.requires.depth),
     )
 
 pub resume-requires-in-Seq-First : goal.resume-requires-in-Seq-First
@@ -432,14 +421,9 @@ resume-requires-in-Seq-First t c =
         below (statement_of c.args.term.now) (Seq (statement_of c.deref-in-Seq-First.result.now) (statement_of c.in-Seq-First.q.value)) (statement_of c.deref-in-Seq-First.result.now)
         (ap node_statement c.in-Seq-First.is-0 ∙ ap (λ x. (Seq (statement_of x) (statement_of c.in-Seq-First.q.value))) (sym c.deref-in-Seq-First.ensures)) (seq_first (statement_of c.deref-in-Seq-First.result.now) (statement_of c.in-Seq-First.q.value)) in (
       search (rules, w),
-      (
-        subst (λ x. Fits (length b1.cells.signals.items) rows at.depth (statement_of x)) (sym c.deref-in-Seq-First.ensures)
-            (asked_fits rows at.depth (statement_of c.in-Seq-First.p.value) b0 b1 kept fits.0),
-        (
-          asked_emitted b0 b1 kept c.requires.emitted,
-          (kept.args ∙ c.requires.args, (asked_declared declared b0 b1 kept c.requires.declared, c.requires.depth)),
-        ),
-      ),
+      asked rows declared at.depth (statement_of c.in-Seq-First.p.value) (statement_of c.deref-in-Seq-First.result.now) b0 b1
+          (ap statement_of c.deref-in-Seq-First.ensures) kept fits.0 c.requires.emitted c.requires.args c.requires.declared
+          (c.requires.depth),
     )
 
 pub resume-requires-in-Seq-Second : goal.resume-requires-in-Seq-Second
@@ -457,14 +441,9 @@ resume-requires-in-Seq-Second t c =
         below (statement_of c.args.term.now) (Seq (statement_of c.in-Seq-Second.field-0-0.value) (statement_of c.deref-in-Seq-Second.result.now)) (statement_of c.deref-in-Seq-Second.result.now)
         (ap node_statement c.in-Seq-Second.is-0 ∙ ap (λ x. (Seq (statement_of c.in-Seq-Second.field-0-0.value) (statement_of x))) (sym c.deref-in-Seq-Second.ensures)) (seq_second (statement_of c.in-Seq-Second.field-0-0.value) (statement_of c.deref-in-Seq-Second.result.now)) in (
       search (rules, w),
-      (
-        subst (λ x. Fits (length b1.cells.signals.items) rows at.depth (statement_of x)) (sym c.deref-in-Seq-Second.ensures)
-            (asked_fits rows at.depth (statement_of c.in-Seq-Second.q.value) b0 b1 kept fits.1),
-        (
-          asked_emitted b0 b1 kept c.requires.emitted,
-          (kept.args ∙ c.requires.args, (asked_declared declared b0 b1 kept c.requires.declared, c.requires.depth)),
-        ),
-      ),
+      asked rows declared at.depth (statement_of c.in-Seq-Second.q.value) (statement_of c.deref-in-Seq-Second.result.now) b0 b1
+          (ap statement_of c.deref-in-Seq-Second.ensures) kept fits.1 c.requires.emitted c.requires.args c.requires.declared
+          (c.requires.depth),
     )
 
 pub resume-requires-in-Par-First : goal.resume-requires-in-Par-First
@@ -482,14 +461,9 @@ resume-requires-in-Par-First t c =
         below (statement_of c.args.term.now) (Par (statement_of c.deref-in-Par-First.result.now) (statement_of c.in-Par-First.field-1-0.value)) (statement_of c.deref-in-Par-First.result.now)
         (ap node_statement c.in-Par-First.is-0 ∙ ap (λ x. (Par (statement_of x) (statement_of c.in-Par-First.field-1-0.value))) (sym c.deref-in-Par-First.ensures)) (par_first (statement_of c.deref-in-Par-First.result.now) (statement_of c.in-Par-First.field-1-0.value)) in (
       search (rules, w),
-      (
-        subst (λ x. Fits (length b1.cells.signals.items) rows at.depth (statement_of x)) (sym c.deref-in-Par-First.ensures)
-            (asked_fits rows at.depth (statement_of c.in-Par-First.p.value) b0 b1 kept fits.0),
-        (
-          asked_emitted b0 b1 kept c.requires.emitted,
-          (kept.args ∙ c.requires.args, (asked_declared declared b0 b1 kept c.requires.declared, c.requires.depth)),
-        ),
-      ),
+      asked rows declared at.depth (statement_of c.in-Par-First.p.value) (statement_of c.deref-in-Par-First.result.now) b0 b1
+          (ap statement_of c.deref-in-Par-First.ensures) kept fits.0 c.requires.emitted c.requires.args c.requires.declared
+          (c.requires.depth),
     )
 
 pub resume-requires-in-Par-Second : goal.resume-requires-in-Par-Second
@@ -507,14 +481,9 @@ resume-requires-in-Par-Second t c =
         below (statement_of c.args.term.now) (Par (statement_of c.in-Par-Second.field-0-0.value) (statement_of c.deref-in-Par-Second.result.now)) (statement_of c.deref-in-Par-Second.result.now)
         (ap node_statement c.in-Par-Second.is-0 ∙ ap (λ x. (Par (statement_of c.in-Par-Second.field-0-0.value) (statement_of x))) (sym c.deref-in-Par-Second.ensures)) (par_second (statement_of c.in-Par-Second.field-0-0.value) (statement_of c.deref-in-Par-Second.result.now)) in (
       search (rules, w),
-      (
-        subst (λ x. Fits (length b1.cells.signals.items) rows at.depth (statement_of x)) (sym c.deref-in-Par-Second.ensures)
-            (asked_fits rows at.depth (statement_of c.in-Par-Second.q.value) b0 b1 kept fits.1),
-        (
-          asked_emitted b0 b1 kept c.requires.emitted,
-          (kept.args ∙ c.requires.args, (asked_declared declared b0 b1 kept c.requires.declared, c.requires.depth)),
-        ),
-      ),
+      asked rows declared at.depth (statement_of c.in-Par-Second.q.value) (statement_of c.deref-in-Par-Second.result.now) b0 b1
+          (ap statement_of c.deref-in-Par-Second.ensures) kept fits.1 c.requires.emitted c.requires.args c.requires.declared
+          (c.requires.depth),
     )
 
 pub resume-requires-in-Par-Both : goal.resume-requires-in-Par-Both
@@ -532,14 +501,9 @@ resume-requires-in-Par-Both t c =
         below (statement_of c.args.term.now) (Par (statement_of c.deref-in-Par-Both.result.now) (statement_of c.in-Par-Both.q.value)) (statement_of c.deref-in-Par-Both.result.now)
         (ap node_statement c.in-Par-Both.is-0 ∙ ap (λ x. (Par (statement_of x) (statement_of c.in-Par-Both.q.value))) (sym c.deref-in-Par-Both.ensures)) (par_first (statement_of c.deref-in-Par-Both.result.now) (statement_of c.in-Par-Both.q.value)) in (
       search (rules, w),
-      (
-        subst (λ x. Fits (length b1.cells.signals.items) rows at.depth (statement_of x)) (sym c.deref-in-Par-Both.ensures)
-            (asked_fits rows at.depth (statement_of c.in-Par-Both.p.value) b0 b1 kept fits.0),
-        (
-          asked_emitted b0 b1 kept c.requires.emitted,
-          (kept.args ∙ c.requires.args, (asked_declared declared b0 b1 kept c.requires.declared, c.requires.depth)),
-        ),
-      ),
+      asked rows declared at.depth (statement_of c.in-Par-Both.p.value) (statement_of c.deref-in-Par-Both.result.now) b0 b1
+          (ap statement_of c.deref-in-Par-Both.ensures) kept fits.0 c.requires.emitted c.requires.args c.requires.declared
+          (c.requires.depth),
     )
 
 pub resume-requires-in-Loop-Inside : goal.resume-requires-in-Loop-Inside
@@ -557,14 +521,9 @@ resume-requires-in-Loop-Inside t c =
         below (statement_of c.args.term.now) (Loop (statement_of c.deref-in-Loop-Inside.result.now)) (statement_of c.deref-in-Loop-Inside.result.now)
         (ap node_statement c.in-Loop-Inside.is-0 ∙ ap (λ x. (Loop (statement_of x))) (sym c.deref-in-Loop-Inside.ensures)) (in_loop (statement_of c.deref-in-Loop-Inside.result.now)) in (
       search (rules, w),
-      (
-        subst (λ x. Fits (length b1.cells.signals.items) rows (at.depth + 1) (statement_of x)) (sym c.deref-in-Loop-Inside.ensures)
-            (asked_fits rows (at.depth + 1) (statement_of c.in-Loop-Inside.p.value) b0 b1 kept (subst (λ k. Fits (length b0.cells.signals.items) rows k (statement_of c.in-Loop-Inside.p.value)) (sym (add-one at.depth)) fits.1)),
-        (
-          asked_emitted b0 b1 kept c.requires.emitted,
-          (kept.args ∙ c.requires.args, (asked_declared declared b0 b1 kept c.requires.declared, subst (λ k. k < rows) (sym (add-one at.depth)) fits.0)),
-        ),
-      ),
+      asked rows declared (at.depth + 1) (statement_of c.in-Loop-Inside.p.value) (statement_of c.deref-in-Loop-Inside.result.now) b0 b1
+          (ap statement_of c.deref-in-Loop-Inside.ensures) kept (subst (λ k. Fits (length b0.cells.signals.items) rows k (statement_of c.in-Loop-Inside.p.value)) (sym (add-one at.depth)) fits.1) c.requires.emitted c.requires.args c.requires.declared
+          (subst (λ k. k < rows) (sym (add-one at.depth)) fits.0),
     )
 
 pub resume-requires-in-Trap-Inside : goal.resume-requires-in-Trap-Inside
@@ -582,14 +541,9 @@ resume-requires-in-Trap-Inside t c =
         below (statement_of c.args.term.now) (Trap (statement_of c.deref-in-Trap-Inside.result.now)) (statement_of c.deref-in-Trap-Inside.result.now)
         (ap node_statement c.in-Trap-Inside.is-0 ∙ ap (λ x. (Trap (statement_of x))) (sym c.deref-in-Trap-Inside.ensures)) (in_trap (statement_of c.deref-in-Trap-Inside.result.now)) in (
       search (rules, w),
-      (
-        subst (λ x. Fits (length b1.cells.signals.items) rows at.depth (statement_of x)) (sym c.deref-in-Trap-Inside.ensures)
-            (asked_fits rows at.depth (statement_of c.in-Trap-Inside.p.value) b0 b1 kept fits),
-        (
-          asked_emitted b0 b1 kept c.requires.emitted,
-          (kept.args ∙ c.requires.args, (asked_declared declared b0 b1 kept c.requires.declared, c.requires.depth)),
-        ),
-      ),
+      asked rows declared at.depth (statement_of c.in-Trap-Inside.p.value) (statement_of c.deref-in-Trap-Inside.result.now) b0 b1
+          (ap statement_of c.deref-in-Trap-Inside.ensures) kept fits c.requires.emitted c.requires.args c.requires.declared
+          (c.requires.depth),
     )
 
 pub start-requires-clause-fits : goal.start-requires-clause-fits
@@ -612,9 +566,6 @@ start-requires-clause-emitted t c =
     let τ = cells_in c.args.table.now in
     let at = c.args.at in
     let b0 = c.args.pass.now in
-    let rows = length c.args.table.now.rows.items in
-    let declared = length (kernel_of c.args.program.now).signals in
-    let fits = subst (λ x. Fits (length b0.cells.signals.items) rows at.depth (node_statement x)) c.in-Seq-First.is-0 c.requires.fits in
     let b1 = c.resume-in-Seq-First.new.pass in
     let kept = end_keeps T (flat_step T τ (statement_of c.deref-in-Seq-First.result.now) at.depth at.level (Resume (selection_of c.deref-in-Seq-First-2.result.now)) (env_of b0.cells.signals.items)) c.in_ok-first-in-Seq-First.first b0 b1 c.in_ok-first-in-Seq-First.ensures (sym c.has_ended.ensures ∙ c.if-not-has_ended.false) in
     asked_emitted b0 b1 kept c.requires.emitted
@@ -625,9 +576,6 @@ start-requires-clause-args t c =
     let τ = cells_in c.args.table.now in
     let at = c.args.at in
     let b0 = c.args.pass.now in
-    let rows = length c.args.table.now.rows.items in
-    let declared = length (kernel_of c.args.program.now).signals in
-    let fits = subst (λ x. Fits (length b0.cells.signals.items) rows at.depth (node_statement x)) c.in-Seq-First.is-0 c.requires.fits in
     let b1 = c.resume-in-Seq-First.new.pass in
     let kept = end_keeps T (flat_step T τ (statement_of c.deref-in-Seq-First.result.now) at.depth at.level (Resume (selection_of c.deref-in-Seq-First-2.result.now)) (env_of b0.cells.signals.items)) c.in_ok-first-in-Seq-First.first b0 b1 c.in_ok-first-in-Seq-First.ensures (sym c.has_ended.ensures ∙ c.if-not-has_ended.false) in
     kept.args ∙ c.requires.args
@@ -638,24 +586,12 @@ start-requires-clause-declared t c =
     let τ = cells_in c.args.table.now in
     let at = c.args.at in
     let b0 = c.args.pass.now in
-    let rows = length c.args.table.now.rows.items in
-    let declared = length (kernel_of c.args.program.now).signals in
-    let fits = subst (λ x. Fits (length b0.cells.signals.items) rows at.depth (node_statement x)) c.in-Seq-First.is-0 c.requires.fits in
     let b1 = c.resume-in-Seq-First.new.pass in
     let kept = end_keeps T (flat_step T τ (statement_of c.deref-in-Seq-First.result.now) at.depth at.level (Resume (selection_of c.deref-in-Seq-First-2.result.now)) (env_of b0.cells.signals.items)) c.in_ok-first-in-Seq-First.first b0 b1 c.in_ok-first-in-Seq-First.ensures (sym c.has_ended.ensures ∙ c.if-not-has_ended.false) in
-    asked_declared declared b0 b1 kept c.requires.declared
+    asked_declared (length (kernel_of c.args.program.now).signals) b0 b1 kept c.requires.declared
 
 pub start-requires-clause-depth : goal.start-requires-clause-depth
 start-requires-clause-depth t c =
-    let T = table_of (kernel_of c.args.program.now) in
-    let τ = cells_in c.args.table.now in
-    let at = c.args.at in
-    let b0 = c.args.pass.now in
-    let rows = length c.args.table.now.rows.items in
-    let declared = length (kernel_of c.args.program.now).signals in
-    let fits = subst (λ x. Fits (length b0.cells.signals.items) rows at.depth (node_statement x)) c.in-Seq-First.is-0 c.requires.fits in
-    let b1 = c.resume-in-Seq-First.new.pass in
-    let kept = end_keeps T (flat_step T τ (statement_of c.deref-in-Seq-First.result.now) at.depth at.level (Resume (selection_of c.deref-in-Seq-First-2.result.now)) (env_of b0.cells.signals.items)) c.in_ok-first-in-Seq-First.first b0 b1 c.in_ok-first-in-Seq-First.ensures (sym c.has_ended.ensures ∙ c.if-not-has_ended.false) in
     c.requires.depth
 
 pub start-requires-in-Loop-Inside-clause-fits : goal.start-requires-in-Loop-Inside-clause-fits
@@ -678,9 +614,6 @@ start-requires-in-Loop-Inside-clause-emitted t c =
     let τ = cells_in c.args.table.now in
     let at = c.args.at in
     let b0 = c.args.pass.now in
-    let rows = length c.args.table.now.rows.items in
-    let declared = length (kernel_of c.args.program.now).signals in
-    let fits = subst (λ x. Fits (length b0.cells.signals.items) rows at.depth (node_statement x)) c.in-Loop-Inside.is-0 c.requires.fits in
     let b1 = c.resume-in-Loop-Inside.new.pass in
     let kept = end_keeps T (flat_step T τ (statement_of c.deref-in-Loop-Inside.result.now) (at.depth + 1) at.level (Resume (selection_of c.deref-in-Loop-Inside-2.result.now)) (env_of b0.cells.signals.items)) c.in_ok-first-in-Loop-Inside.first b0 b1 c.in_ok-first-in-Loop-Inside.ensures (sym c.has_ended-in-Loop-Inside.ensures ∙ c.if-not-has_ended-2.false) in
     asked_emitted b0 b1 kept c.requires.emitted
@@ -691,9 +624,6 @@ start-requires-in-Loop-Inside-clause-args t c =
     let τ = cells_in c.args.table.now in
     let at = c.args.at in
     let b0 = c.args.pass.now in
-    let rows = length c.args.table.now.rows.items in
-    let declared = length (kernel_of c.args.program.now).signals in
-    let fits = subst (λ x. Fits (length b0.cells.signals.items) rows at.depth (node_statement x)) c.in-Loop-Inside.is-0 c.requires.fits in
     let b1 = c.resume-in-Loop-Inside.new.pass in
     let kept = end_keeps T (flat_step T τ (statement_of c.deref-in-Loop-Inside.result.now) (at.depth + 1) at.level (Resume (selection_of c.deref-in-Loop-Inside-2.result.now)) (env_of b0.cells.signals.items)) c.in_ok-first-in-Loop-Inside.first b0 b1 c.in_ok-first-in-Loop-Inside.ensures (sym c.has_ended-in-Loop-Inside.ensures ∙ c.if-not-has_ended-2.false) in
     kept.args ∙ c.requires.args
@@ -704,24 +634,16 @@ start-requires-in-Loop-Inside-clause-declared t c =
     let τ = cells_in c.args.table.now in
     let at = c.args.at in
     let b0 = c.args.pass.now in
-    let rows = length c.args.table.now.rows.items in
-    let declared = length (kernel_of c.args.program.now).signals in
-    let fits = subst (λ x. Fits (length b0.cells.signals.items) rows at.depth (node_statement x)) c.in-Loop-Inside.is-0 c.requires.fits in
     let b1 = c.resume-in-Loop-Inside.new.pass in
     let kept = end_keeps T (flat_step T τ (statement_of c.deref-in-Loop-Inside.result.now) (at.depth + 1) at.level (Resume (selection_of c.deref-in-Loop-Inside-2.result.now)) (env_of b0.cells.signals.items)) c.in_ok-first-in-Loop-Inside.first b0 b1 c.in_ok-first-in-Loop-Inside.ensures (sym c.has_ended-in-Loop-Inside.ensures ∙ c.if-not-has_ended-2.false) in
-    asked_declared declared b0 b1 kept c.requires.declared
+    asked_declared (length (kernel_of c.args.program.now).signals) b0 b1 kept c.requires.declared
 
 pub start-requires-in-Loop-Inside-clause-depth : goal.start-requires-in-Loop-Inside-clause-depth
 start-requires-in-Loop-Inside-clause-depth t c =
-    let T = table_of (kernel_of c.args.program.now) in
-    let τ = cells_in c.args.table.now in
     let at = c.args.at in
     let b0 = c.args.pass.now in
     let rows = length c.args.table.now.rows.items in
-    let declared = length (kernel_of c.args.program.now).signals in
     let fits = subst (λ x. Fits (length b0.cells.signals.items) rows at.depth (node_statement x)) c.in-Loop-Inside.is-0 c.requires.fits in
-    let b1 = c.resume-in-Loop-Inside.new.pass in
-    let kept = end_keeps T (flat_step T τ (statement_of c.deref-in-Loop-Inside.result.now) (at.depth + 1) at.level (Resume (selection_of c.deref-in-Loop-Inside-2.result.now)) (env_of b0.cells.signals.items)) c.in_ok-first-in-Loop-Inside.first b0 b1 c.in_ok-first-in-Loop-Inside.ensures (sym c.has_ended-in-Loop-Inside.ensures ∙ c.if-not-has_ended-2.false) in
     subst (λ k. k < rows) (sym (add-one at.depth)) fits.0
 
 pub resume-requires-in-Par-Both-2 : goal.resume-requires-in-Par-Both-2
@@ -739,14 +661,9 @@ resume-requires-in-Par-Both-2 t c =
         below (statement_of c.args.term.now) (Par (statement_of c.in-Par-Both.p.value) (statement_of c.deref-in-Par-Both-3.result.now)) (statement_of c.deref-in-Par-Both-3.result.now)
         (ap node_statement c.in-Par-Both.is-0 ∙ ap (λ x. (Par (statement_of c.in-Par-Both.p.value) (statement_of x))) (sym c.deref-in-Par-Both-3.ensures)) (par_second (statement_of c.in-Par-Both.p.value) (statement_of c.deref-in-Par-Both-3.result.now)) in (
       search (rules, w),
-      (
-        subst (λ x. Fits (length b1.cells.signals.items) rows at.depth (statement_of x)) (sym c.deref-in-Par-Both-3.ensures)
-            (asked_fits rows at.depth (statement_of c.in-Par-Both.q.value) b0 b1 kept fits.1),
-        (
-          asked_emitted b0 b1 kept c.requires.emitted,
-          (kept.args ∙ c.requires.args, (asked_declared declared b0 b1 kept c.requires.declared, c.requires.depth)),
-        ),
-      ),
+      asked rows declared at.depth (statement_of c.in-Par-Both.q.value) (statement_of c.deref-in-Par-Both-3.result.now) b0 b1
+          (ap statement_of c.deref-in-Par-Both-3.ensures) kept fits.1 c.requires.emitted c.requires.args c.requires.declared
+          (c.requires.depth),
     )
 
 pub resume-requires-in-Local-Local : goal.resume-requires-in-Local-Local
@@ -764,14 +681,9 @@ resume-requires-in-Local-Local t c =
         below (statement_of c.args.term.now) (Local c.in-Local-Local.s (statement_of c.deref-in-Local-Local.result.now)) (statement_of c.deref-in-Local-Local.result.now)
         (ap node_statement c.in-Local-Local.is-0 ∙ ap (λ x. (Local c.in-Local-Local.s (statement_of x))) (sym c.deref-in-Local-Local.ensures)) (in_local c.in-Local-Local.s (statement_of c.deref-in-Local-Local.result.now)) in (
       search (rules, w),
-      (
-        subst (λ x. Fits (length b1.cells.signals.items) rows at.depth (statement_of x)) (sym c.deref-in-Local-Local.ensures)
-            (asked_fits rows at.depth (statement_of c.in-Local-Local.p.value) b0 b1 kept fits.1),
-        (
-          asked_emitted b0 b1 kept c.requires.emitted,
-          (kept.args ∙ c.requires.args, (asked_declared declared b0 b1 kept c.requires.declared, c.requires.depth)),
-        ),
-      ),
+      asked rows declared at.depth (statement_of c.in-Local-Local.p.value) (statement_of c.deref-in-Local-Local.result.now) b0 b1
+          (ap statement_of c.deref-in-Local-Local.ensures) kept fits.1 c.requires.emitted c.requires.args c.requires.declared
+          (c.requires.depth),
     )
 
 pub leave-cell-requires-clause-cell : goal.leave-cell-requires-clause-cell

@@ -1,28 +1,27 @@
-use Rattle.std.proofs.Common.{◌≡◌, refl, sym, ap, ◌∙◌, subst, false, true, Some, None, [], length, add-one, suc, rules, ◌<◌, ◌≤◌, ◌+◌, arith, not}
-use Rattle.std.proofs.Common.{◌&&◌}
+use Rattle.std.proofs.Common.{◌≡◌, sym, ap, ◌∙◌, subst, false, true, Some, None, length, add-one, suc, rules}
+use Rattle.std.proofs.Common.{◌<◌, ◌+◌, arith}
 use Rattle.host_expr.specs.Expression.{expression_of, optional_expression}
-use Rattle.host_expr.specs.Environment.{env_of, is_decided, is_known}
-use Rattle.host_expr.specs.Evaluation.{eval_of}
+use Rattle.host_expr.specs.Environment.{env_of}
 use Rattle.hh_term.specs.Statement.{Emit, If, Suspend, Seq, Par, Loop, Trap, Local, Async}
 use Rattle.hh_term.specs.Selection.{Start}
 use Rattle.hh_term.specs.MustCan.{table_of}
 use Rattle.hh_term.specs.ProgramView.{kernel_of}
-use Rattle.hh_term.specs.Views.{statement_of, node_statement, selection_of}
+use Rattle.hh_term.specs.Views.{statement_of, node_statement}
 use Rattle.status_table.specs.Flat.{cell_with}
 use Rattle.status_table.specs.TableView.{cells_in}
 use Rattle.status_table.specs.Walking.{Fits}
 use Rattle.status_table.proofs.Reading.{first_is}
 use Rattle.status_table.specs.FlatStep.{flat_step}
-use Rattle.last_walk.specs.LastWalk.{Tested, Walked, ends_at, in_part}
+use Rattle.last_walk.specs.LastWalk.{Walked, in_part}
 use Rattle.last_walk.specs.declared.completion.Part.TheVariants as part
 use Rattle.last_walk.proofs.Noting.{wrap_did, trap_did}
-use Rattle.last_walk.proofs.Walks.{walked_as, resumed_as, no_completion, if_open, if_true, if_false, suspend_open}
-use Rattle.last_walk.proofs.Walks.{suspend_holds, suspend_fails, goes, stops, beside_first_open, beside_second_open, both}
+use Rattle.last_walk.proofs.Walks.{walked_as, no_completion, if_open, if_true, if_false}
+use Rattle.last_walk.proofs.Walks.{goes, stops, beside_first_open, beside_second_open, both}
 use Rattle.last_walk.proofs.Walks.{scope_unsolved, scope_open, scope_walked}
-use Rattle.last_walk.proofs.Asking.{end_keeps, step_keeps, scope_keeps, fault_keeps, kept_both, asked_fits, asked_emitted}
-use Rattle.last_walk.proofs.Asking.{asked_declared}
-use Rattle.last_walk.proofs.Asking.{kept_same}
-use Rattle.last_walk.proofs.Weight.{weight, below, if_first, if_second, in_suspend, seq_first, seq_second, par_first, par_second}
+use Rattle.last_walk.proofs.Asking.{end_keeps, step_keeps, scope_keeps, fault_keeps, kept_both, kept_same}
+use Rattle.last_walk.proofs.Asking.{asked}
+use Rattle.last_walk.proofs.Weight.{weight, below, if_first, if_second, in_suspend, seq_first, seq_second}
+use Rattle.last_walk.proofs.Weight.{par_first, par_second}
 use Rattle.last_walk.proofs.Weight.{in_loop, in_trap, in_local}
 use Rattle.last_walk.proofs.walk.+start.Goals as goal
 
@@ -235,14 +234,9 @@ start-requires t c =
         below (statement_of c.args.term.now) (If (expression_of c.in-If.condition) (statement_of c.deref.result.now) (statement_of c.in-If.q.value)) (statement_of c.deref.result.now)
         (ap node_statement c.in-If.is ∙ ap (λ x. (If (expression_of c.in-If.condition) (statement_of x) (statement_of c.in-If.q.value))) (sym c.deref.ensures)) (if_first (expression_of c.in-If.condition) (statement_of c.deref.result.now) (statement_of c.in-If.q.value)) in (
       search (rules, w),
-      (
-        subst (λ x. Fits (length b1.cells.signals.items) rows at.depth (statement_of x)) (sym c.deref.ensures)
-            (asked_fits rows at.depth (statement_of c.in-If.p.value) b0 b1 kept fits.0),
-        (
-          asked_emitted b0 b1 kept c.requires.emitted,
-          (kept.args ∙ c.requires.args, (asked_declared declared b0 b1 kept c.requires.declared, c.requires.depth)),
-        ),
-      ),
+      asked rows declared at.depth (statement_of c.in-If.p.value) (statement_of c.deref.result.now) b0 b1
+          (ap statement_of c.deref.ensures) kept fits.0 c.requires.emitted c.requires.args c.requires.declared
+          (c.requires.depth),
     )
 
 pub start-requires-in-Some-false : goal.start-requires-in-Some-false
@@ -260,14 +254,9 @@ start-requires-in-Some-false t c =
         below (statement_of c.args.term.now) (If (expression_of c.in-If.condition) (statement_of c.in-If.p.value) (statement_of c.deref-in-Some-false.result.now)) (statement_of c.deref-in-Some-false.result.now)
         (ap node_statement c.in-If.is ∙ ap (λ x. (If (expression_of c.in-If.condition) (statement_of c.in-If.p.value) (statement_of x))) (sym c.deref-in-Some-false.ensures)) (if_second (expression_of c.in-If.condition) (statement_of c.in-If.p.value) (statement_of c.deref-in-Some-false.result.now)) in (
       search (rules, w),
-      (
-        subst (λ x. Fits (length b1.cells.signals.items) rows at.depth (statement_of x)) (sym c.deref-in-Some-false.ensures)
-            (asked_fits rows at.depth (statement_of c.in-If.q.value) b0 b1 kept fits.1),
-        (
-          asked_emitted b0 b1 kept c.requires.emitted,
-          (kept.args ∙ c.requires.args, (asked_declared declared b0 b1 kept c.requires.declared, c.requires.depth)),
-        ),
-      ),
+      asked rows declared at.depth (statement_of c.in-If.q.value) (statement_of c.deref-in-Some-false.result.now) b0 b1
+          (ap statement_of c.deref-in-Some-false.ensures) kept fits.1 c.requires.emitted c.requires.args c.requires.declared
+          (c.requires.depth),
     )
 
 pub start-requires-in-Suspend : goal.start-requires-in-Suspend
@@ -285,14 +274,9 @@ start-requires-in-Suspend t c =
         below (statement_of c.args.term.now) (Suspend (expression_of c.in-Suspend.field-0) (statement_of c.deref-in-Suspend.result.now)) (statement_of c.deref-in-Suspend.result.now)
         (ap node_statement c.in-Suspend.is ∙ ap (λ x. (Suspend (expression_of c.in-Suspend.field-0) (statement_of x))) (sym c.deref-in-Suspend.ensures)) (in_suspend (expression_of c.in-Suspend.field-0) (statement_of c.deref-in-Suspend.result.now)) in (
       search (rules, w),
-      (
-        subst (λ x. Fits (length b1.cells.signals.items) rows at.depth (statement_of x)) (sym c.deref-in-Suspend.ensures)
-            (asked_fits rows at.depth (statement_of c.in-Suspend.p.value) b0 b1 kept fits),
-        (
-          asked_emitted b0 b1 kept c.requires.emitted,
-          (kept.args ∙ c.requires.args, (asked_declared declared b0 b1 kept c.requires.declared, c.requires.depth)),
-        ),
-      ),
+      asked rows declared at.depth (statement_of c.in-Suspend.p.value) (statement_of c.deref-in-Suspend.result.now) b0 b1
+          (ap statement_of c.deref-in-Suspend.ensures) kept fits c.requires.emitted c.requires.args c.requires.declared
+          (c.requires.depth),
     )
 
 pub start-requires-in-Seq : goal.start-requires-in-Seq
@@ -310,14 +294,9 @@ start-requires-in-Seq t c =
         below (statement_of c.args.term.now) (Seq (statement_of c.deref-in-Seq.result.now) (statement_of c.in-Seq.q.value)) (statement_of c.deref-in-Seq.result.now)
         (ap node_statement c.in-Seq.is ∙ ap (λ x. (Seq (statement_of x) (statement_of c.in-Seq.q.value))) (sym c.deref-in-Seq.ensures)) (seq_first (statement_of c.deref-in-Seq.result.now) (statement_of c.in-Seq.q.value)) in (
       search (rules, w),
-      (
-        subst (λ x. Fits (length b1.cells.signals.items) rows at.depth (statement_of x)) (sym c.deref-in-Seq.ensures)
-            (asked_fits rows at.depth (statement_of c.in-Seq.p.value) b0 b1 kept fits.0),
-        (
-          asked_emitted b0 b1 kept c.requires.emitted,
-          (kept.args ∙ c.requires.args, (asked_declared declared b0 b1 kept c.requires.declared, c.requires.depth)),
-        ),
-      ),
+      asked rows declared at.depth (statement_of c.in-Seq.p.value) (statement_of c.deref-in-Seq.result.now) b0 b1
+          (ap statement_of c.deref-in-Seq.ensures) kept fits.0 c.requires.emitted c.requires.args c.requires.declared
+          (c.requires.depth),
     )
 
 pub start-requires-in-Seq-2 : goal.start-requires-in-Seq-2
@@ -335,14 +314,9 @@ start-requires-in-Seq-2 t c =
         below (statement_of c.args.term.now) (Seq (statement_of c.in-Seq.p.value) (statement_of c.deref-in-Seq-2.result.now)) (statement_of c.deref-in-Seq-2.result.now)
         (ap node_statement c.in-Seq.is ∙ ap (λ x. (Seq (statement_of c.in-Seq.p.value) (statement_of x))) (sym c.deref-in-Seq-2.ensures)) (seq_second (statement_of c.in-Seq.p.value) (statement_of c.deref-in-Seq-2.result.now)) in (
       search (rules, w),
-      (
-        subst (λ x. Fits (length b1.cells.signals.items) rows at.depth (statement_of x)) (sym c.deref-in-Seq-2.ensures)
-            (asked_fits rows at.depth (statement_of c.in-Seq.q.value) b0 b1 kept fits.1),
-        (
-          asked_emitted b0 b1 kept c.requires.emitted,
-          (kept.args ∙ c.requires.args, (asked_declared declared b0 b1 kept c.requires.declared, c.requires.depth)),
-        ),
-      ),
+      asked rows declared at.depth (statement_of c.in-Seq.q.value) (statement_of c.deref-in-Seq-2.result.now) b0 b1
+          (ap statement_of c.deref-in-Seq-2.ensures) kept fits.1 c.requires.emitted c.requires.args c.requires.declared
+          (c.requires.depth),
     )
 
 pub start-requires-in-Par : goal.start-requires-in-Par
@@ -360,14 +334,9 @@ start-requires-in-Par t c =
         below (statement_of c.args.term.now) (Par (statement_of c.deref-in-Par.result.now) (statement_of c.in-Par.q.value)) (statement_of c.deref-in-Par.result.now)
         (ap node_statement c.in-Par.is ∙ ap (λ x. (Par (statement_of x) (statement_of c.in-Par.q.value))) (sym c.deref-in-Par.ensures)) (par_first (statement_of c.deref-in-Par.result.now) (statement_of c.in-Par.q.value)) in (
       search (rules, w),
-      (
-        subst (λ x. Fits (length b1.cells.signals.items) rows at.depth (statement_of x)) (sym c.deref-in-Par.ensures)
-            (asked_fits rows at.depth (statement_of c.in-Par.p.value) b0 b1 kept fits.0),
-        (
-          asked_emitted b0 b1 kept c.requires.emitted,
-          (kept.args ∙ c.requires.args, (asked_declared declared b0 b1 kept c.requires.declared, c.requires.depth)),
-        ),
-      ),
+      asked rows declared at.depth (statement_of c.in-Par.p.value) (statement_of c.deref-in-Par.result.now) b0 b1
+          (ap statement_of c.deref-in-Par.ensures) kept fits.0 c.requires.emitted c.requires.args c.requires.declared
+          (c.requires.depth),
     )
 
 pub start-requires-in-Par-2 : goal.start-requires-in-Par-2
@@ -385,14 +354,9 @@ start-requires-in-Par-2 t c =
         below (statement_of c.args.term.now) (Par (statement_of c.in-Par.p.value) (statement_of c.deref-in-Par-2.result.now)) (statement_of c.deref-in-Par-2.result.now)
         (ap node_statement c.in-Par.is ∙ ap (λ x. (Par (statement_of c.in-Par.p.value) (statement_of x))) (sym c.deref-in-Par-2.ensures)) (par_second (statement_of c.in-Par.p.value) (statement_of c.deref-in-Par-2.result.now)) in (
       search (rules, w),
-      (
-        subst (λ x. Fits (length b1.cells.signals.items) rows at.depth (statement_of x)) (sym c.deref-in-Par-2.ensures)
-            (asked_fits rows at.depth (statement_of c.in-Par.q.value) b0 b1 kept fits.1),
-        (
-          asked_emitted b0 b1 kept c.requires.emitted,
-          (kept.args ∙ c.requires.args, (asked_declared declared b0 b1 kept c.requires.declared, c.requires.depth)),
-        ),
-      ),
+      asked rows declared at.depth (statement_of c.in-Par.q.value) (statement_of c.deref-in-Par-2.result.now) b0 b1
+          (ap statement_of c.deref-in-Par-2.ensures) kept fits.1 c.requires.emitted c.requires.args c.requires.declared
+          (c.requires.depth),
     )
 
 pub start-requires-in-Loop : goal.start-requires-in-Loop
@@ -410,14 +374,9 @@ start-requires-in-Loop t c =
         below (statement_of c.args.term.now) (Loop (statement_of c.deref-in-Loop.result.now)) (statement_of c.deref-in-Loop.result.now)
         (ap node_statement c.in-Loop.is ∙ ap (λ x. (Loop (statement_of x))) (sym c.deref-in-Loop.ensures)) (in_loop (statement_of c.deref-in-Loop.result.now)) in (
       search (rules, w),
-      (
-        subst (λ x. Fits (length b1.cells.signals.items) rows (at.depth + 1) (statement_of x)) (sym c.deref-in-Loop.ensures)
-            (asked_fits rows (at.depth + 1) (statement_of c.in-Loop.p.value) b0 b1 kept (subst (λ k. Fits (length b0.cells.signals.items) rows k (statement_of c.in-Loop.p.value)) (sym (add-one at.depth)) fits.1)),
-        (
-          asked_emitted b0 b1 kept c.requires.emitted,
-          (kept.args ∙ c.requires.args, (asked_declared declared b0 b1 kept c.requires.declared, subst (λ k. k < rows) (sym (add-one at.depth)) fits.0)),
-        ),
-      ),
+      asked rows declared (at.depth + 1) (statement_of c.in-Loop.p.value) (statement_of c.deref-in-Loop.result.now) b0 b1
+          (ap statement_of c.deref-in-Loop.ensures) kept (subst (λ k. Fits (length b0.cells.signals.items) rows k (statement_of c.in-Loop.p.value)) (sym (add-one at.depth)) fits.1) c.requires.emitted c.requires.args c.requires.declared
+          (subst (λ k. k < rows) (sym (add-one at.depth)) fits.0),
     )
 
 pub start-requires-in-Trap : goal.start-requires-in-Trap
@@ -435,14 +394,9 @@ start-requires-in-Trap t c =
         below (statement_of c.args.term.now) (Trap (statement_of c.deref-in-Trap.result.now)) (statement_of c.deref-in-Trap.result.now)
         (ap node_statement c.in-Trap.is ∙ ap (λ x. (Trap (statement_of x))) (sym c.deref-in-Trap.ensures)) (in_trap (statement_of c.deref-in-Trap.result.now)) in (
       search (rules, w),
-      (
-        subst (λ x. Fits (length b1.cells.signals.items) rows at.depth (statement_of x)) (sym c.deref-in-Trap.ensures)
-            (asked_fits rows at.depth (statement_of c.in-Trap.p.value) b0 b1 kept fits),
-        (
-          asked_emitted b0 b1 kept c.requires.emitted,
-          (kept.args ∙ c.requires.args, (asked_declared declared b0 b1 kept c.requires.declared, c.requires.depth)),
-        ),
-      ),
+      asked rows declared at.depth (statement_of c.in-Trap.p.value) (statement_of c.deref-in-Trap.result.now) b0 b1
+          (ap statement_of c.deref-in-Trap.ensures) kept fits c.requires.emitted c.requires.args c.requires.declared
+          (c.requires.depth),
     )
 
 pub start-requires-in-Local : goal.start-requires-in-Local
@@ -460,14 +414,9 @@ start-requires-in-Local t c =
         below (statement_of c.args.term.now) (Local c.in-Local.s (statement_of c.deref-in-Local.result.now)) (statement_of c.deref-in-Local.result.now)
         (ap node_statement c.in-Local.is ∙ ap (λ x. (Local c.in-Local.s (statement_of x))) (sym c.deref-in-Local.ensures)) (in_local c.in-Local.s (statement_of c.deref-in-Local.result.now)) in (
       search (rules, w),
-      (
-        subst (λ x. Fits (length b1.cells.signals.items) rows at.depth (statement_of x)) (sym c.deref-in-Local.ensures)
-            (asked_fits rows at.depth (statement_of c.in-Local.p.value) b0 b1 kept fits.1),
-        (
-          asked_emitted b0 b1 kept c.requires.emitted,
-          (kept.args ∙ c.requires.args, (asked_declared declared b0 b1 kept c.requires.declared, c.requires.depth)),
-        ),
-      ),
+      asked rows declared at.depth (statement_of c.in-Local.p.value) (statement_of c.deref-in-Local.result.now) b0 b1
+          (ap statement_of c.deref-in-Local.ensures) kept fits.1 c.requires.emitted c.requires.args c.requires.declared
+          (c.requires.depth),
     )
 
 pub leave-cell-requires-clause-cell : goal.leave-cell-requires-clause-cell

@@ -1,6 +1,5 @@
 use Rattle.std.proofs.Common.{◌≡◌, ap, ◌∙◌, subst, not, true, Some}
-use Rattle.host_expr.specs.Environment.{env_of, is_known}
-use Rattle.host_expr.specs.Expression.{optional_expression}
+use Rattle.host_expr.specs.Environment.{is_known}
 use Rattle.hh_term.specs.Step.{emit_step}
 use Rattle.last_walk.specs.LastWalk.{Did}
 use Rattle.last_walk.proofs.Scoping.{emit_did}

@@ -1,4 +1,4 @@
-use Rattle.std.proofs.Common.{ap, ◌∙◌, subst, []}
+use Rattle.std.proofs.Common.{ap, ◌∙◌, subst}
 use Rattle.host_expr.specs.Environment.{env_of}
 use Rattle.host_expr.specs.Evaluation.{eval_of}
 use Rattle.host_expr.specs.Expression.{expression_of}

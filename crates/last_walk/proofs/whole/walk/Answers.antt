@@ -1,4 +1,4 @@
-use Rattle.std.proofs.Common.{refl, sym, ap, ◌∙◌, Some}
+use Rattle.std.proofs.Common.{refl, sym, ap, ◌∙◌}
 use Rattle.hh_term.specs.MustCan.{table_of}
 use Rattle.hh_term.specs.ProgramView.{kernel_of}
 use Rattle.hh_term.specs.Views.{control_in, control_of, selection_of, statement_of}
