@@ -74,9 +74,9 @@ pub asked : (levels declared d : ℕ) (p q : Statement) (b0 b1 : LastPass) → q
     ((length b1.emitted.items ≡ length b1.cells.signals.items) ×
     ((b1.cells.args.items ≡ []) × ((length b1.cells.signals.items ≤ declared) × (d < levels))))
 asked levels declared d p q b0 b1 same k f e g h l = (
-    subst (Fits (length b1.cells.signals.items) levels d) (sym same) (asked_fits levels d p b0 b1 k f),
-    (asked_emitted b0 b1 k e, (k.args ∙ g, (asked_declared declared b0 b1 k h, l))),
-  )
+  subst (Fits (length b1.cells.signals.items) levels d) (sym same) (asked_fits levels d p b0 b1 k f),
+  (asked_emitted b0 b1 k e, (k.args ∙ g, (asked_declared declared b0 b1 k h, l))),
+)
 
 pub kept_same : (b : LastPass) → Kept b b
 kept_same b = record { signals = refl; args = refl; emitted = refl }

@@ -13,7 +13,9 @@ ghost use Rattle.last_walk.specs.LastWalk.{held_step, verdict, Did, Tested, Walk
 ghost use Rattle.status_table.specs.TableView.{cells_in};
 ghost use Rattle.status_table.specs.Walking.{Fits};
 
-use crate::completion::{Completion, Part, beside, completes, has_ended, in_scope, rests, trapped, within};
+use crate::completion::{
+    Completion, Part, beside, completes, has_ended, in_scope, rests, trapped, within,
+};
 use crate::instance::{held, note_held, resume_async, start_async};
 use crate::last_pass::LastPass;
 use hh_base::value::{NoMemory, Tri, Value};
@@ -23,9 +25,9 @@ use hh_term::term::{Term, TermNode};
 use host_expr::cell::{Cell, SigCell};
 use host_expr::eval::eval;
 use host_expr::expr::Expr;
-use std::alloc::Global;
 use status_table::state::Statuses;
 use status_table::walk::emission;
+use std::alloc::Global;
 
 /// Where a walk is: how many loops are round the statement, and the level of the locals in it.
 #[derive(Clone, Copy, PartialEq, Eq, Debug)]
@@ -45,11 +47,7 @@ fn verdict(cell: &Cell) -> Option<bool>
     }
 }
 
-fn test(
-    alloc: Global,
-    condition: &Expr<u32>,
-    pass: &mut LastPass,
-) -> Result<Option<bool>, NoMemory>
+fn test(alloc: Global, condition: &Expr<u32>, pass: &mut LastPass) -> Result<Option<bool>, NoMemory>
     requires { pass.old.cells.args.items ≡ [] }
     ensures same { pass.new ≡ record pass.old { fault = pass.new.fault } }
     ensures tested { IfOk result (λ r. (T : ATable) → Tested T

@@ -1,4 +1,4 @@
-use Rattle.std.proofs.Common.{◌≡◌, sym, ap, ◌∙◌, subst, false, true, Some, None, length, add-one, suc, rules}
+use Rattle.std.proofs.Common.{◌≡◌, sym, ap, ◌∙◌, subst, Some, None, length, add-one, suc, rules}
 use Rattle.std.proofs.Common.{◌<◌, ◌+◌, arith}
 use Rattle.host_expr.specs.Expression.{expression_of, optional_expression}
 use Rattle.host_expr.specs.Environment.{env_of}
@@ -358,8 +358,8 @@ resume-requires t c =
     let b1 = b0 in
     let kept = kept_same b0 in
     let w : weight (statement_of c.deref.result.now) < weight (statement_of c.args.term.now) =
-        below (statement_of c.args.term.now) (If (expression_of c.in-If-First.field-0-0) (statement_of c.deref.result.now) (statement_of c.in-If-First.field-2-0.value)) (statement_of c.deref.result.now)
-        (ap node_statement c.in-If-First.is-0 ∙ ap (λ x. (If (expression_of c.in-If-First.field-0-0) (statement_of x) (statement_of c.in-If-First.field-2-0.value))) (sym c.deref.ensures)) (if_first (expression_of c.in-If-First.field-0-0) (statement_of c.deref.result.now) (statement_of c.in-If-First.field-2-0.value)) in (
+    below (statement_of c.args.term.now) (If (expression_of c.in-If-First.field-0-0) (statement_of c.deref.result.now) (statement_of c.in-If-First.field-2-0.value)) (statement_of c.deref.result.now)
+    (ap node_statement c.in-If-First.is-0 ∙ ap (λ x. (If (expression_of c.in-If-First.field-0-0) (statement_of x) (statement_of c.in-If-First.field-2-0.value))) (sym c.deref.ensures)) (if_first (expression_of c.in-If-First.field-0-0) (statement_of c.deref.result.now) (statement_of c.in-If-First.field-2-0.value)) in (
       search (rules, w),
       asked rows declared at.depth (statement_of c.in-If-First.p.value) (statement_of c.deref.result.now) b0 b1
           (ap statement_of c.deref.ensures) kept fits.0 c.requires.emitted c.requires.args c.requires.declared
@@ -378,8 +378,8 @@ resume-requires-in-If-Second t c =
     let b1 = b0 in
     let kept = kept_same b0 in
     let w : weight (statement_of c.deref-in-If-Second.result.now) < weight (statement_of c.args.term.now) =
-        below (statement_of c.args.term.now) (If (expression_of c.in-If-Second.field-0-0) (statement_of c.in-If-Second.field-1-0.value) (statement_of c.deref-in-If-Second.result.now)) (statement_of c.deref-in-If-Second.result.now)
-        (ap node_statement c.in-If-Second.is-0 ∙ ap (λ x. (If (expression_of c.in-If-Second.field-0-0) (statement_of c.in-If-Second.field-1-0.value) (statement_of x))) (sym c.deref-in-If-Second.ensures)) (if_second (expression_of c.in-If-Second.field-0-0) (statement_of c.in-If-Second.field-1-0.value) (statement_of c.deref-in-If-Second.result.now)) in (
+    below (statement_of c.args.term.now) (If (expression_of c.in-If-Second.field-0-0) (statement_of c.in-If-Second.field-1-0.value) (statement_of c.deref-in-If-Second.result.now)) (statement_of c.deref-in-If-Second.result.now)
+    (ap node_statement c.in-If-Second.is-0 ∙ ap (λ x. (If (expression_of c.in-If-Second.field-0-0) (statement_of c.in-If-Second.field-1-0.value) (statement_of x))) (sym c.deref-in-If-Second.ensures)) (if_second (expression_of c.in-If-Second.field-0-0) (statement_of c.in-If-Second.field-1-0.value) (statement_of c.deref-in-If-Second.result.now)) in (
       search (rules, w),
       asked rows declared at.depth (statement_of c.in-If-Second.q.value) (statement_of c.deref-in-If-Second.result.now) b0 b1
           (ap statement_of c.deref-in-If-Second.ensures) kept fits.1 c.requires.emitted c.requires.args c.requires.declared
@@ -398,8 +398,8 @@ resume-requires-in-Some-false t c =
     let b1 = c.test.new.pass in
     let kept = fault_keeps b0 b1 c.in_ok-test-in-Suspend-Inside.ensures.same in
     let w : weight (statement_of c.deref-in-Some-false.result.now) < weight (statement_of c.args.term.now) =
-        below (statement_of c.args.term.now) (Suspend (expression_of c.in-Suspend-Inside.condition) (statement_of c.deref-in-Some-false.result.now)) (statement_of c.deref-in-Some-false.result.now)
-        (ap node_statement c.in-Suspend-Inside.is-0 ∙ ap (λ x. (Suspend (expression_of c.in-Suspend-Inside.condition) (statement_of x))) (sym c.deref-in-Some-false.ensures)) (in_suspend (expression_of c.in-Suspend-Inside.condition) (statement_of c.deref-in-Some-false.result.now)) in (
+    below (statement_of c.args.term.now) (Suspend (expression_of c.in-Suspend-Inside.condition) (statement_of c.deref-in-Some-false.result.now)) (statement_of c.deref-in-Some-false.result.now)
+    (ap node_statement c.in-Suspend-Inside.is-0 ∙ ap (λ x. (Suspend (expression_of c.in-Suspend-Inside.condition) (statement_of x))) (sym c.deref-in-Some-false.ensures)) (in_suspend (expression_of c.in-Suspend-Inside.condition) (statement_of c.deref-in-Some-false.result.now)) in (
       search (rules, w),
       asked rows declared at.depth (statement_of c.in-Suspend-Inside.p.value) (statement_of c.deref-in-Some-false.result.now) b0 b1
           (ap statement_of c.deref-in-Some-false.ensures) kept fits c.requires.emitted c.requires.args c.requires.declared
@@ -418,8 +418,8 @@ resume-requires-in-Seq-First t c =
     let b1 = b0 in
     let kept = kept_same b0 in
     let w : weight (statement_of c.deref-in-Seq-First.result.now) < weight (statement_of c.args.term.now) =
-        below (statement_of c.args.term.now) (Seq (statement_of c.deref-in-Seq-First.result.now) (statement_of c.in-Seq-First.q.value)) (statement_of c.deref-in-Seq-First.result.now)
-        (ap node_statement c.in-Seq-First.is-0 ∙ ap (λ x. (Seq (statement_of x) (statement_of c.in-Seq-First.q.value))) (sym c.deref-in-Seq-First.ensures)) (seq_first (statement_of c.deref-in-Seq-First.result.now) (statement_of c.in-Seq-First.q.value)) in (
+    below (statement_of c.args.term.now) (Seq (statement_of c.deref-in-Seq-First.result.now) (statement_of c.in-Seq-First.q.value)) (statement_of c.deref-in-Seq-First.result.now)
+    (ap node_statement c.in-Seq-First.is-0 ∙ ap (λ x. (Seq (statement_of x) (statement_of c.in-Seq-First.q.value))) (sym c.deref-in-Seq-First.ensures)) (seq_first (statement_of c.deref-in-Seq-First.result.now) (statement_of c.in-Seq-First.q.value)) in (
       search (rules, w),
       asked rows declared at.depth (statement_of c.in-Seq-First.p.value) (statement_of c.deref-in-Seq-First.result.now) b0 b1
           (ap statement_of c.deref-in-Seq-First.ensures) kept fits.0 c.requires.emitted c.requires.args c.requires.declared
@@ -438,8 +438,8 @@ resume-requires-in-Seq-Second t c =
     let b1 = b0 in
     let kept = kept_same b0 in
     let w : weight (statement_of c.deref-in-Seq-Second.result.now) < weight (statement_of c.args.term.now) =
-        below (statement_of c.args.term.now) (Seq (statement_of c.in-Seq-Second.field-0-0.value) (statement_of c.deref-in-Seq-Second.result.now)) (statement_of c.deref-in-Seq-Second.result.now)
-        (ap node_statement c.in-Seq-Second.is-0 ∙ ap (λ x. (Seq (statement_of c.in-Seq-Second.field-0-0.value) (statement_of x))) (sym c.deref-in-Seq-Second.ensures)) (seq_second (statement_of c.in-Seq-Second.field-0-0.value) (statement_of c.deref-in-Seq-Second.result.now)) in (
+    below (statement_of c.args.term.now) (Seq (statement_of c.in-Seq-Second.field-0-0.value) (statement_of c.deref-in-Seq-Second.result.now)) (statement_of c.deref-in-Seq-Second.result.now)
+    (ap node_statement c.in-Seq-Second.is-0 ∙ ap (λ x. (Seq (statement_of c.in-Seq-Second.field-0-0.value) (statement_of x))) (sym c.deref-in-Seq-Second.ensures)) (seq_second (statement_of c.in-Seq-Second.field-0-0.value) (statement_of c.deref-in-Seq-Second.result.now)) in (
       search (rules, w),
       asked rows declared at.depth (statement_of c.in-Seq-Second.q.value) (statement_of c.deref-in-Seq-Second.result.now) b0 b1
           (ap statement_of c.deref-in-Seq-Second.ensures) kept fits.1 c.requires.emitted c.requires.args c.requires.declared
@@ -458,8 +458,8 @@ resume-requires-in-Par-First t c =
     let b1 = b0 in
     let kept = kept_same b0 in
     let w : weight (statement_of c.deref-in-Par-First.result.now) < weight (statement_of c.args.term.now) =
-        below (statement_of c.args.term.now) (Par (statement_of c.deref-in-Par-First.result.now) (statement_of c.in-Par-First.field-1-0.value)) (statement_of c.deref-in-Par-First.result.now)
-        (ap node_statement c.in-Par-First.is-0 ∙ ap (λ x. (Par (statement_of x) (statement_of c.in-Par-First.field-1-0.value))) (sym c.deref-in-Par-First.ensures)) (par_first (statement_of c.deref-in-Par-First.result.now) (statement_of c.in-Par-First.field-1-0.value)) in (
+    below (statement_of c.args.term.now) (Par (statement_of c.deref-in-Par-First.result.now) (statement_of c.in-Par-First.field-1-0.value)) (statement_of c.deref-in-Par-First.result.now)
+    (ap node_statement c.in-Par-First.is-0 ∙ ap (λ x. (Par (statement_of x) (statement_of c.in-Par-First.field-1-0.value))) (sym c.deref-in-Par-First.ensures)) (par_first (statement_of c.deref-in-Par-First.result.now) (statement_of c.in-Par-First.field-1-0.value)) in (
       search (rules, w),
       asked rows declared at.depth (statement_of c.in-Par-First.p.value) (statement_of c.deref-in-Par-First.result.now) b0 b1
           (ap statement_of c.deref-in-Par-First.ensures) kept fits.0 c.requires.emitted c.requires.args c.requires.declared
@@ -478,8 +478,8 @@ resume-requires-in-Par-Second t c =
     let b1 = b0 in
     let kept = kept_same b0 in
     let w : weight (statement_of c.deref-in-Par-Second.result.now) < weight (statement_of c.args.term.now) =
-        below (statement_of c.args.term.now) (Par (statement_of c.in-Par-Second.field-0-0.value) (statement_of c.deref-in-Par-Second.result.now)) (statement_of c.deref-in-Par-Second.result.now)
-        (ap node_statement c.in-Par-Second.is-0 ∙ ap (λ x. (Par (statement_of c.in-Par-Second.field-0-0.value) (statement_of x))) (sym c.deref-in-Par-Second.ensures)) (par_second (statement_of c.in-Par-Second.field-0-0.value) (statement_of c.deref-in-Par-Second.result.now)) in (
+    below (statement_of c.args.term.now) (Par (statement_of c.in-Par-Second.field-0-0.value) (statement_of c.deref-in-Par-Second.result.now)) (statement_of c.deref-in-Par-Second.result.now)
+    (ap node_statement c.in-Par-Second.is-0 ∙ ap (λ x. (Par (statement_of c.in-Par-Second.field-0-0.value) (statement_of x))) (sym c.deref-in-Par-Second.ensures)) (par_second (statement_of c.in-Par-Second.field-0-0.value) (statement_of c.deref-in-Par-Second.result.now)) in (
       search (rules, w),
       asked rows declared at.depth (statement_of c.in-Par-Second.q.value) (statement_of c.deref-in-Par-Second.result.now) b0 b1
           (ap statement_of c.deref-in-Par-Second.ensures) kept fits.1 c.requires.emitted c.requires.args c.requires.declared
@@ -498,8 +498,8 @@ resume-requires-in-Par-Both t c =
     let b1 = b0 in
     let kept = kept_same b0 in
     let w : weight (statement_of c.deref-in-Par-Both.result.now) < weight (statement_of c.args.term.now) =
-        below (statement_of c.args.term.now) (Par (statement_of c.deref-in-Par-Both.result.now) (statement_of c.in-Par-Both.q.value)) (statement_of c.deref-in-Par-Both.result.now)
-        (ap node_statement c.in-Par-Both.is-0 ∙ ap (λ x. (Par (statement_of x) (statement_of c.in-Par-Both.q.value))) (sym c.deref-in-Par-Both.ensures)) (par_first (statement_of c.deref-in-Par-Both.result.now) (statement_of c.in-Par-Both.q.value)) in (
+    below (statement_of c.args.term.now) (Par (statement_of c.deref-in-Par-Both.result.now) (statement_of c.in-Par-Both.q.value)) (statement_of c.deref-in-Par-Both.result.now)
+    (ap node_statement c.in-Par-Both.is-0 ∙ ap (λ x. (Par (statement_of x) (statement_of c.in-Par-Both.q.value))) (sym c.deref-in-Par-Both.ensures)) (par_first (statement_of c.deref-in-Par-Both.result.now) (statement_of c.in-Par-Both.q.value)) in (
       search (rules, w),
       asked rows declared at.depth (statement_of c.in-Par-Both.p.value) (statement_of c.deref-in-Par-Both.result.now) b0 b1
           (ap statement_of c.deref-in-Par-Both.ensures) kept fits.0 c.requires.emitted c.requires.args c.requires.declared
@@ -518,8 +518,8 @@ resume-requires-in-Loop-Inside t c =
     let b1 = b0 in
     let kept = kept_same b0 in
     let w : weight (statement_of c.deref-in-Loop-Inside.result.now) < weight (statement_of c.args.term.now) =
-        below (statement_of c.args.term.now) (Loop (statement_of c.deref-in-Loop-Inside.result.now)) (statement_of c.deref-in-Loop-Inside.result.now)
-        (ap node_statement c.in-Loop-Inside.is-0 ∙ ap (λ x. (Loop (statement_of x))) (sym c.deref-in-Loop-Inside.ensures)) (in_loop (statement_of c.deref-in-Loop-Inside.result.now)) in (
+    below (statement_of c.args.term.now) (Loop (statement_of c.deref-in-Loop-Inside.result.now)) (statement_of c.deref-in-Loop-Inside.result.now)
+    (ap node_statement c.in-Loop-Inside.is-0 ∙ ap (λ x. (Loop (statement_of x))) (sym c.deref-in-Loop-Inside.ensures)) (in_loop (statement_of c.deref-in-Loop-Inside.result.now)) in (
       search (rules, w),
       asked rows declared (at.depth + 1) (statement_of c.in-Loop-Inside.p.value) (statement_of c.deref-in-Loop-Inside.result.now) b0 b1
           (ap statement_of c.deref-in-Loop-Inside.ensures) kept (subst (λ k. Fits (length b0.cells.signals.items) rows k (statement_of c.in-Loop-Inside.p.value)) (sym (add-one at.depth)) fits.1) c.requires.emitted c.requires.args c.requires.declared
@@ -538,8 +538,8 @@ resume-requires-in-Trap-Inside t c =
     let b1 = b0 in
     let kept = kept_same b0 in
     let w : weight (statement_of c.deref-in-Trap-Inside.result.now) < weight (statement_of c.args.term.now) =
-        below (statement_of c.args.term.now) (Trap (statement_of c.deref-in-Trap-Inside.result.now)) (statement_of c.deref-in-Trap-Inside.result.now)
-        (ap node_statement c.in-Trap-Inside.is-0 ∙ ap (λ x. (Trap (statement_of x))) (sym c.deref-in-Trap-Inside.ensures)) (in_trap (statement_of c.deref-in-Trap-Inside.result.now)) in (
+    below (statement_of c.args.term.now) (Trap (statement_of c.deref-in-Trap-Inside.result.now)) (statement_of c.deref-in-Trap-Inside.result.now)
+    (ap node_statement c.in-Trap-Inside.is-0 ∙ ap (λ x. (Trap (statement_of x))) (sym c.deref-in-Trap-Inside.ensures)) (in_trap (statement_of c.deref-in-Trap-Inside.result.now)) in (
       search (rules, w),
       asked rows declared at.depth (statement_of c.in-Trap-Inside.p.value) (statement_of c.deref-in-Trap-Inside.result.now) b0 b1
           (ap statement_of c.deref-in-Trap-Inside.ensures) kept fits c.requires.emitted c.requires.args c.requires.declared
@@ -658,8 +658,8 @@ resume-requires-in-Par-Both-2 t c =
     let b1 = c.resume-in-Par-Both.new.pass in
     let kept = step_keeps T (flat_step T τ (statement_of c.deref-in-Par-Both.result.now) at.depth at.level (Resume (selection_of c.deref-in-Par-Both-2.result.now)) (env_of b0.cells.signals.items)) c.in_ok-first-in-Par-Both.field-0 c.in-Some-3.first b0 b1 c.in_ok-first-in-Par-Both.ensures c.in-Some-3.is in
     let w : weight (statement_of c.deref-in-Par-Both-3.result.now) < weight (statement_of c.args.term.now) =
-        below (statement_of c.args.term.now) (Par (statement_of c.in-Par-Both.p.value) (statement_of c.deref-in-Par-Both-3.result.now)) (statement_of c.deref-in-Par-Both-3.result.now)
-        (ap node_statement c.in-Par-Both.is-0 ∙ ap (λ x. (Par (statement_of c.in-Par-Both.p.value) (statement_of x))) (sym c.deref-in-Par-Both-3.ensures)) (par_second (statement_of c.in-Par-Both.p.value) (statement_of c.deref-in-Par-Both-3.result.now)) in (
+    below (statement_of c.args.term.now) (Par (statement_of c.in-Par-Both.p.value) (statement_of c.deref-in-Par-Both-3.result.now)) (statement_of c.deref-in-Par-Both-3.result.now)
+    (ap node_statement c.in-Par-Both.is-0 ∙ ap (λ x. (Par (statement_of c.in-Par-Both.p.value) (statement_of x))) (sym c.deref-in-Par-Both-3.ensures)) (par_second (statement_of c.in-Par-Both.p.value) (statement_of c.deref-in-Par-Both-3.result.now)) in (
       search (rules, w),
       asked rows declared at.depth (statement_of c.in-Par-Both.q.value) (statement_of c.deref-in-Par-Both-3.result.now) b0 b1
           (ap statement_of c.deref-in-Par-Both-3.ensures) kept fits.1 c.requires.emitted c.requires.args c.requires.declared
@@ -678,8 +678,8 @@ resume-requires-in-Local-Local t c =
     let b1 = c.enter-outer.new.self in
     let kept = scope_keeps c.in-Local-Local.s c.in_ok-inner-in-Local-Local.inner c.enter-outer.result b0 b1 c.enter-outer.ensures in
     let w : weight (statement_of c.deref-in-Local-Local.result.now) < weight (statement_of c.args.term.now) =
-        below (statement_of c.args.term.now) (Local c.in-Local-Local.s (statement_of c.deref-in-Local-Local.result.now)) (statement_of c.deref-in-Local-Local.result.now)
-        (ap node_statement c.in-Local-Local.is-0 ∙ ap (λ x. (Local c.in-Local-Local.s (statement_of x))) (sym c.deref-in-Local-Local.ensures)) (in_local c.in-Local-Local.s (statement_of c.deref-in-Local-Local.result.now)) in (
+    below (statement_of c.args.term.now) (Local c.in-Local-Local.s (statement_of c.deref-in-Local-Local.result.now)) (statement_of c.deref-in-Local-Local.result.now)
+    (ap node_statement c.in-Local-Local.is-0 ∙ ap (λ x. (Local c.in-Local-Local.s (statement_of x))) (sym c.deref-in-Local-Local.ensures)) (in_local c.in-Local-Local.s (statement_of c.deref-in-Local-Local.result.now)) in (
       search (rules, w),
       asked rows declared at.depth (statement_of c.in-Local-Local.p.value) (statement_of c.deref-in-Local-Local.result.now) b0 b1
           (ap statement_of c.deref-in-Local-Local.ensures) kept fits.1 c.requires.emitted c.requires.args c.requires.declared

@@ -1,4 +1,4 @@
-use Rattle.std.proofs.Common.{◌≡◌, sym, ap, ◌∙◌, subst, false, true, Some, None, length, add-one, suc, rules}
+use Rattle.std.proofs.Common.{◌≡◌, sym, ap, ◌∙◌, subst, false, Some, None, length, add-one, suc, rules}
 use Rattle.std.proofs.Common.{◌<◌, ◌+◌, arith}
 use Rattle.host_expr.specs.Expression.{expression_of, optional_expression}
 use Rattle.host_expr.specs.Environment.{env_of}
@@ -231,8 +231,8 @@ start-requires t c =
     let b1 = c.test.new.pass in
     let kept = fault_keeps b0 b1 c.in_ok-test-in-If.ensures.same in
     let w : weight (statement_of c.deref.result.now) < weight (statement_of c.args.term.now) =
-        below (statement_of c.args.term.now) (If (expression_of c.in-If.condition) (statement_of c.deref.result.now) (statement_of c.in-If.q.value)) (statement_of c.deref.result.now)
-        (ap node_statement c.in-If.is ∙ ap (λ x. (If (expression_of c.in-If.condition) (statement_of x) (statement_of c.in-If.q.value))) (sym c.deref.ensures)) (if_first (expression_of c.in-If.condition) (statement_of c.deref.result.now) (statement_of c.in-If.q.value)) in (
+    below (statement_of c.args.term.now) (If (expression_of c.in-If.condition) (statement_of c.deref.result.now) (statement_of c.in-If.q.value)) (statement_of c.deref.result.now)
+    (ap node_statement c.in-If.is ∙ ap (λ x. (If (expression_of c.in-If.condition) (statement_of x) (statement_of c.in-If.q.value))) (sym c.deref.ensures)) (if_first (expression_of c.in-If.condition) (statement_of c.deref.result.now) (statement_of c.in-If.q.value)) in (
       search (rules, w),
       asked rows declared at.depth (statement_of c.in-If.p.value) (statement_of c.deref.result.now) b0 b1
           (ap statement_of c.deref.ensures) kept fits.0 c.requires.emitted c.requires.args c.requires.declared
@@ -251,8 +251,8 @@ start-requires-in-Some-false t c =
     let b1 = c.test.new.pass in
     let kept = fault_keeps b0 b1 c.in_ok-test-in-If.ensures.same in
     let w : weight (statement_of c.deref-in-Some-false.result.now) < weight (statement_of c.args.term.now) =
-        below (statement_of c.args.term.now) (If (expression_of c.in-If.condition) (statement_of c.in-If.p.value) (statement_of c.deref-in-Some-false.result.now)) (statement_of c.deref-in-Some-false.result.now)
-        (ap node_statement c.in-If.is ∙ ap (λ x. (If (expression_of c.in-If.condition) (statement_of c.in-If.p.value) (statement_of x))) (sym c.deref-in-Some-false.ensures)) (if_second (expression_of c.in-If.condition) (statement_of c.in-If.p.value) (statement_of c.deref-in-Some-false.result.now)) in (
+    below (statement_of c.args.term.now) (If (expression_of c.in-If.condition) (statement_of c.in-If.p.value) (statement_of c.deref-in-Some-false.result.now)) (statement_of c.deref-in-Some-false.result.now)
+    (ap node_statement c.in-If.is ∙ ap (λ x. (If (expression_of c.in-If.condition) (statement_of c.in-If.p.value) (statement_of x))) (sym c.deref-in-Some-false.ensures)) (if_second (expression_of c.in-If.condition) (statement_of c.in-If.p.value) (statement_of c.deref-in-Some-false.result.now)) in (
       search (rules, w),
       asked rows declared at.depth (statement_of c.in-If.q.value) (statement_of c.deref-in-Some-false.result.now) b0 b1
           (ap statement_of c.deref-in-Some-false.ensures) kept fits.1 c.requires.emitted c.requires.args c.requires.declared
@@ -271,8 +271,8 @@ start-requires-in-Suspend t c =
     let b1 = b0 in
     let kept = kept_same b0 in
     let w : weight (statement_of c.deref-in-Suspend.result.now) < weight (statement_of c.args.term.now) =
-        below (statement_of c.args.term.now) (Suspend (expression_of c.in-Suspend.field-0) (statement_of c.deref-in-Suspend.result.now)) (statement_of c.deref-in-Suspend.result.now)
-        (ap node_statement c.in-Suspend.is ∙ ap (λ x. (Suspend (expression_of c.in-Suspend.field-0) (statement_of x))) (sym c.deref-in-Suspend.ensures)) (in_suspend (expression_of c.in-Suspend.field-0) (statement_of c.deref-in-Suspend.result.now)) in (
+    below (statement_of c.args.term.now) (Suspend (expression_of c.in-Suspend.field-0) (statement_of c.deref-in-Suspend.result.now)) (statement_of c.deref-in-Suspend.result.now)
+    (ap node_statement c.in-Suspend.is ∙ ap (λ x. (Suspend (expression_of c.in-Suspend.field-0) (statement_of x))) (sym c.deref-in-Suspend.ensures)) (in_suspend (expression_of c.in-Suspend.field-0) (statement_of c.deref-in-Suspend.result.now)) in (
       search (rules, w),
       asked rows declared at.depth (statement_of c.in-Suspend.p.value) (statement_of c.deref-in-Suspend.result.now) b0 b1
           (ap statement_of c.deref-in-Suspend.ensures) kept fits c.requires.emitted c.requires.args c.requires.declared
@@ -291,8 +291,8 @@ start-requires-in-Seq t c =
     let b1 = b0 in
     let kept = kept_same b0 in
     let w : weight (statement_of c.deref-in-Seq.result.now) < weight (statement_of c.args.term.now) =
-        below (statement_of c.args.term.now) (Seq (statement_of c.deref-in-Seq.result.now) (statement_of c.in-Seq.q.value)) (statement_of c.deref-in-Seq.result.now)
-        (ap node_statement c.in-Seq.is ∙ ap (λ x. (Seq (statement_of x) (statement_of c.in-Seq.q.value))) (sym c.deref-in-Seq.ensures)) (seq_first (statement_of c.deref-in-Seq.result.now) (statement_of c.in-Seq.q.value)) in (
+    below (statement_of c.args.term.now) (Seq (statement_of c.deref-in-Seq.result.now) (statement_of c.in-Seq.q.value)) (statement_of c.deref-in-Seq.result.now)
+    (ap node_statement c.in-Seq.is ∙ ap (λ x. (Seq (statement_of x) (statement_of c.in-Seq.q.value))) (sym c.deref-in-Seq.ensures)) (seq_first (statement_of c.deref-in-Seq.result.now) (statement_of c.in-Seq.q.value)) in (
       search (rules, w),
       asked rows declared at.depth (statement_of c.in-Seq.p.value) (statement_of c.deref-in-Seq.result.now) b0 b1
           (ap statement_of c.deref-in-Seq.ensures) kept fits.0 c.requires.emitted c.requires.args c.requires.declared
@@ -311,8 +311,8 @@ start-requires-in-Seq-2 t c =
     let b1 = c.start-in-Seq.new.pass in
     let kept = end_keeps T (flat_step T τ (statement_of c.deref-in-Seq.result.now) at.depth at.level Start (env_of b0.cells.signals.items)) c.in_ok-first-in-Seq.first b0 b1 c.in_ok-first-in-Seq.ensures (sym c.has_ended.ensures ∙ c.if-not-has_ended.false) in
     let w : weight (statement_of c.deref-in-Seq-2.result.now) < weight (statement_of c.args.term.now) =
-        below (statement_of c.args.term.now) (Seq (statement_of c.in-Seq.p.value) (statement_of c.deref-in-Seq-2.result.now)) (statement_of c.deref-in-Seq-2.result.now)
-        (ap node_statement c.in-Seq.is ∙ ap (λ x. (Seq (statement_of c.in-Seq.p.value) (statement_of x))) (sym c.deref-in-Seq-2.ensures)) (seq_second (statement_of c.in-Seq.p.value) (statement_of c.deref-in-Seq-2.result.now)) in (
+    below (statement_of c.args.term.now) (Seq (statement_of c.in-Seq.p.value) (statement_of c.deref-in-Seq-2.result.now)) (statement_of c.deref-in-Seq-2.result.now)
+    (ap node_statement c.in-Seq.is ∙ ap (λ x. (Seq (statement_of c.in-Seq.p.value) (statement_of x))) (sym c.deref-in-Seq-2.ensures)) (seq_second (statement_of c.in-Seq.p.value) (statement_of c.deref-in-Seq-2.result.now)) in (
       search (rules, w),
       asked rows declared at.depth (statement_of c.in-Seq.q.value) (statement_of c.deref-in-Seq-2.result.now) b0 b1
           (ap statement_of c.deref-in-Seq-2.ensures) kept fits.1 c.requires.emitted c.requires.args c.requires.declared
@@ -331,8 +331,8 @@ start-requires-in-Par t c =
     let b1 = b0 in
     let kept = kept_same b0 in
     let w : weight (statement_of c.deref-in-Par.result.now) < weight (statement_of c.args.term.now) =
-        below (statement_of c.args.term.now) (Par (statement_of c.deref-in-Par.result.now) (statement_of c.in-Par.q.value)) (statement_of c.deref-in-Par.result.now)
-        (ap node_statement c.in-Par.is ∙ ap (λ x. (Par (statement_of x) (statement_of c.in-Par.q.value))) (sym c.deref-in-Par.ensures)) (par_first (statement_of c.deref-in-Par.result.now) (statement_of c.in-Par.q.value)) in (
+    below (statement_of c.args.term.now) (Par (statement_of c.deref-in-Par.result.now) (statement_of c.in-Par.q.value)) (statement_of c.deref-in-Par.result.now)
+    (ap node_statement c.in-Par.is ∙ ap (λ x. (Par (statement_of x) (statement_of c.in-Par.q.value))) (sym c.deref-in-Par.ensures)) (par_first (statement_of c.deref-in-Par.result.now) (statement_of c.in-Par.q.value)) in (
       search (rules, w),
       asked rows declared at.depth (statement_of c.in-Par.p.value) (statement_of c.deref-in-Par.result.now) b0 b1
           (ap statement_of c.deref-in-Par.ensures) kept fits.0 c.requires.emitted c.requires.args c.requires.declared
@@ -351,8 +351,8 @@ start-requires-in-Par-2 t c =
     let b1 = c.start-in-Par.new.pass in
     let kept = step_keeps T (flat_step T τ (statement_of c.deref-in-Par.result.now) at.depth at.level Start (env_of b0.cells.signals.items)) c.in_ok-first-in-Par.field-0 c.in-Some.first b0 b1 c.in_ok-first-in-Par.ensures c.in-Some.is in
     let w : weight (statement_of c.deref-in-Par-2.result.now) < weight (statement_of c.args.term.now) =
-        below (statement_of c.args.term.now) (Par (statement_of c.in-Par.p.value) (statement_of c.deref-in-Par-2.result.now)) (statement_of c.deref-in-Par-2.result.now)
-        (ap node_statement c.in-Par.is ∙ ap (λ x. (Par (statement_of c.in-Par.p.value) (statement_of x))) (sym c.deref-in-Par-2.ensures)) (par_second (statement_of c.in-Par.p.value) (statement_of c.deref-in-Par-2.result.now)) in (
+    below (statement_of c.args.term.now) (Par (statement_of c.in-Par.p.value) (statement_of c.deref-in-Par-2.result.now)) (statement_of c.deref-in-Par-2.result.now)
+    (ap node_statement c.in-Par.is ∙ ap (λ x. (Par (statement_of c.in-Par.p.value) (statement_of x))) (sym c.deref-in-Par-2.ensures)) (par_second (statement_of c.in-Par.p.value) (statement_of c.deref-in-Par-2.result.now)) in (
       search (rules, w),
       asked rows declared at.depth (statement_of c.in-Par.q.value) (statement_of c.deref-in-Par-2.result.now) b0 b1
           (ap statement_of c.deref-in-Par-2.ensures) kept fits.1 c.requires.emitted c.requires.args c.requires.declared
@@ -371,8 +371,8 @@ start-requires-in-Loop t c =
     let b1 = b0 in
     let kept = kept_same b0 in
     let w : weight (statement_of c.deref-in-Loop.result.now) < weight (statement_of c.args.term.now) =
-        below (statement_of c.args.term.now) (Loop (statement_of c.deref-in-Loop.result.now)) (statement_of c.deref-in-Loop.result.now)
-        (ap node_statement c.in-Loop.is ∙ ap (λ x. (Loop (statement_of x))) (sym c.deref-in-Loop.ensures)) (in_loop (statement_of c.deref-in-Loop.result.now)) in (
+    below (statement_of c.args.term.now) (Loop (statement_of c.deref-in-Loop.result.now)) (statement_of c.deref-in-Loop.result.now)
+    (ap node_statement c.in-Loop.is ∙ ap (λ x. (Loop (statement_of x))) (sym c.deref-in-Loop.ensures)) (in_loop (statement_of c.deref-in-Loop.result.now)) in (
       search (rules, w),
       asked rows declared (at.depth + 1) (statement_of c.in-Loop.p.value) (statement_of c.deref-in-Loop.result.now) b0 b1
           (ap statement_of c.deref-in-Loop.ensures) kept (subst (λ k. Fits (length b0.cells.signals.items) rows k (statement_of c.in-Loop.p.value)) (sym (add-one at.depth)) fits.1) c.requires.emitted c.requires.args c.requires.declared
@@ -391,8 +391,8 @@ start-requires-in-Trap t c =
     let b1 = b0 in
     let kept = kept_same b0 in
     let w : weight (statement_of c.deref-in-Trap.result.now) < weight (statement_of c.args.term.now) =
-        below (statement_of c.args.term.now) (Trap (statement_of c.deref-in-Trap.result.now)) (statement_of c.deref-in-Trap.result.now)
-        (ap node_statement c.in-Trap.is ∙ ap (λ x. (Trap (statement_of x))) (sym c.deref-in-Trap.ensures)) (in_trap (statement_of c.deref-in-Trap.result.now)) in (
+    below (statement_of c.args.term.now) (Trap (statement_of c.deref-in-Trap.result.now)) (statement_of c.deref-in-Trap.result.now)
+    (ap node_statement c.in-Trap.is ∙ ap (λ x. (Trap (statement_of x))) (sym c.deref-in-Trap.ensures)) (in_trap (statement_of c.deref-in-Trap.result.now)) in (
       search (rules, w),
       asked rows declared at.depth (statement_of c.in-Trap.p.value) (statement_of c.deref-in-Trap.result.now) b0 b1
           (ap statement_of c.deref-in-Trap.ensures) kept fits c.requires.emitted c.requires.args c.requires.declared
@@ -411,8 +411,8 @@ start-requires-in-Local t c =
     let b1 = c.enter-outer.new.self in
     let kept = scope_keeps c.in-Local.s c.in_ok-inner-in-Local.inner c.enter-outer.result b0 b1 c.enter-outer.ensures in
     let w : weight (statement_of c.deref-in-Local.result.now) < weight (statement_of c.args.term.now) =
-        below (statement_of c.args.term.now) (Local c.in-Local.s (statement_of c.deref-in-Local.result.now)) (statement_of c.deref-in-Local.result.now)
-        (ap node_statement c.in-Local.is ∙ ap (λ x. (Local c.in-Local.s (statement_of x))) (sym c.deref-in-Local.ensures)) (in_local c.in-Local.s (statement_of c.deref-in-Local.result.now)) in (
+    below (statement_of c.args.term.now) (Local c.in-Local.s (statement_of c.deref-in-Local.result.now)) (statement_of c.deref-in-Local.result.now)
+    (ap node_statement c.in-Local.is ∙ ap (λ x. (Local c.in-Local.s (statement_of x))) (sym c.deref-in-Local.ensures)) (in_local c.in-Local.s (statement_of c.deref-in-Local.result.now)) in (
       search (rules, w),
       asked rows declared at.depth (statement_of c.in-Local.p.value) (statement_of c.deref-in-Local.result.now) b0 b1
           (ap statement_of c.deref-in-Local.ensures) kept fits.1 c.requires.emitted c.requires.args c.requires.declared

@@ -2,7 +2,7 @@ use Rattle.std.proofs.Common.{ap, ◌∙◌, subst}
 use Rattle.host_expr.specs.Environment.{env_of}
 use Rattle.host_expr.specs.Evaluation.{eval_of}
 use Rattle.host_expr.specs.Expression.{expression_of}
-use Rattle.last_walk.specs.LastWalk.{verdict, Tested}
+use Rattle.last_walk.specs.LastWalk.{Tested}
 use Rattle.last_walk.proofs.walk.test.Goals as goal
 
 pub returns-clause-tested : goal.returns-clause-tested
