@@ -3,3 +3,9 @@ pub mod Noting
 pub mod Scoping
 pub mod Stopping
 pub mod Instances
+pub mod Walks
+pub mod Unwalked
+pub mod Programs
+pub mod Beginning
+pub mod Asking
+pub mod Weight

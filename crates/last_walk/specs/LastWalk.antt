@@ -18,8 +18,8 @@ use Rattle.hh_term.specs.Selection.{Selection, First, Second, Inside, Task}
 use Rattle.hh_term.specs.Views.{selection_of}
 use Rattle.hh_term.specs.MustCan.{Table, Bag, cells_of, lower}
 use Rattle.hh_term.specs.Reaction.{fault_rank}
-use Rattle.hh_term.specs.Step.{Stepped, mark_map, both_marks, doubled_by, overflow_by}
-use Rattle.hh_term.specs.Touches.{Touch, stopped}
+use Rattle.hh_term.specs.Step.{Stepped, rests, mark_map, both_marks, doubled_by, overflow_by}
+use Rattle.hh_term.specs.Touches.{Touch, stopped, held_mark, held_touches}
 use Rattle.status_table.specs.Flat.{Cells}
 use Rattle.status_table.specs.FlatStep.{flat_step}
 use Rattle.last_walk.specs.declared.touch.Touch.{Touch as ATouch}
@@ -175,6 +175,10 @@ verdict (cell.Faulted _ _) = Some false
 pub record Tested (T : Table) (c : Cell) (holds : Option Bool) (before after : LastPass) : Type 0 where
   pub is : holds ≡ verdict c
   pub noted : Noted T [] [] (fault_in c) [] before after
+
+-- what a held statement does
+abbrev pub held_step : Statement → Selection → Stepped
+held_step p m = rests (Inside (held_mark m)) (held_touches p m)
 
 -- the touches from the place n on are of instances that do not run after
 abbrev pub stopped_from : ℕ → List Touch → List Touch

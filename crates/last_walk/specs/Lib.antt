@@ -1,1 +1,2 @@
 pub mod LastWalk
+pub mod Whole

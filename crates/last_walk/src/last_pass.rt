@@ -11,12 +11,14 @@ ghost use Rattle.hh_term.specs.Reaction.{fault_rank};
 ghost use Rattle.last_walk.specs.LastWalk.{sum_of, fault_in, Adds, Counts, Entered, Judged, Left, Noted};
 ghost use Rattle.last_walk.specs.LastWalk.{lesser, fault_place, place_of_fault, place_of_signal};
 ghost use Rattle.last_walk.specs.LastWalk.{signal_place};
+ghost use Rattle.last_walk.specs.Whole.{Begun, NoEmissions};
 
 use crate::touch::Touch;
 use hh_base::value::{CombineWord, FaultKind, Kind, NoMemory, Pos, Value};
 use hh_term::program::Program;
 use host_expr::cell::{Cell, Cells, SigCell};
 use status_table::declared::{kind_of, word_of};
+use std::alloc::Global;
 use std::mem;
 
 /// How often a signal was emitted, and the sum of the numbers that it was emitted with.
@@ -136,10 +138,35 @@ fn first_signal(program: &Program, met: Option<u32>, signal: u32) -> Option<u32>
     }
 }
 
+fn no_emissions(alloc: Global, count: usize) -> Result<Vec<Emitted>, NoMemory>
+    ensures { IfOk result (λ v. NoEmissions count v.items) }
+{
+    let mut none = Vec::with_capacity(alloc, count)?;
+    for signal in 0..count {
+        none.push(Emitted::none())?;
+    }
+    Ok(none)
+}
+
 impl LastPass {
+    /// Where the walk begins: the signals have these cells, and nothing is noted.
+    pub fn new(alloc: Global, cells: Cells) -> Result<LastPass, NoMemory>
+        ensures { IfOk result (Begun cells) }
+    {
+        let emitted = no_emissions(alloc, cells.signals.len())?;
+        Ok(LastPass {
+            cells,
+            emitted,
+            touches: Vec::new(alloc),
+            doubled: None,
+            fault: None,
+        })
+    }
+
     /// Notes the fault of a cell, if it has one.
     pub fn note_fault(&mut self, cell: &Cell)
-        ensures { (T : ATable) → Noted T [] [] (fault_in cell.now) [] self.old self.new }
+        ensures same { self.new ≡ record self.old { fault = self.new.fault } }
+        ensures noted { (T : ATable) → Noted T [] [] (fault_in cell.now) [] self.old self.new }
     {
         if let Cell::Faulted(pos, kind) = cell {
             self.fault = first_fault(self.fault, (*pos, *kind));

@@ -5,3 +5,5 @@ pub mod completion;
 pub mod instance;
 pub mod last_pass;
 pub mod touch;
+pub mod walk;
+pub mod whole;

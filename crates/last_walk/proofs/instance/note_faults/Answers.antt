@@ -16,7 +16,7 @@ loop-cell-preserved c T =
     subst (λ z. Noted T [] [] (faults_in z) [] c.args.pass.now c.note_fault.new.self)
     (ap (λ y. take i cs ++ y ∷ []) c.cell-item.is ∙ sym (take_more cs i x c.loop-cell-test.true))
     (one_fault_more T (take i cs) x c.args.pass.now c.loop-cell.pass c.note_fault.new.self (c.loop-cell.invariant T)
-    (c.note_fault.ensures T))
+    (c.note_fault.ensures.noted T))
 
 pub returns : goal.returns
 returns c T = subst (λ z. Noted T [] [] (faults_in z) [] c.args.pass.now c.loop-cell.pass)
