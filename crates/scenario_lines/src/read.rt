@@ -1,12 +1,11 @@
 //! The reader of scenarios.
-ghost use Rattle.std.specs.Prelude.{◌≡◌, ◌+◌, ◌<◌, ◌≤◌, ◌≢◌, ◌^◌, ◌⊎◌, ◌∷◌, ◌++◌, [], ℕ, true, false, List, All, codes, length};
-ghost use Rattle.std.specs.Prelude.{IfOk, IfErr, IfSome, MatchOption, MatchResult, OnOk, Some};
+ghost use Rattle.std.specs.Prelude.{◌≡◌, ◌<◌, ◌≤◌, ◌⊎◌, ◌∷◌, ◌++◌, ℕ, true, List, All, codes, length};
+ghost use Rattle.std.specs.Prelude.{IfOk, IfErr, MatchOption, MatchResult, OnOk};
 ghost use Rattle.std.specs.Option.{option_to_list};
-ghost use Rattle.reaction_run.specs.declared.event.Input.{Input as AnInput};
 ghost use Rattle.hh_term.specs.declared.program.SignalDecl.{SignalDecl as ADeclaration};
 ghost use Rattle.scenario_lines.specs.declared.line.Line.{Line as ALine};
 ghost use Rattle.scenario_lines.specs.declared.line.Mode.{Mode as AMode};
-ghost use Rattle.scenario_lines.specs.Interface.{HasNames, HasWords};
+ghost use Rattle.scenario_lines.specs.Interface.{HasNames};
 ghost use Rattle.scenario_lines.specs.Lines.{begins_with, is_skipped, parts_of};
 ghost use Rattle.scenario_lines.specs.Reader.{IsTheLine, TakesPart, command_word};
 ghost use Rattle.scenario_lines.specs.Scenario.{AreInputs, IsFirstRefused, IsInput, IsLine, IsRefused, IsScenario, answer_word};

@@ -1,16 +1,10 @@
 //! The print of replies and effects.
-ghost use Rattle.std.specs.Prelude.{◌≡◌, ◌+◌, ◌<◌, ◌^◌, ◌∷◌, ◌++◌, [], IfOk, OnOk, OnErr, codes, decimal};
+ghost use Rattle.std.specs.Prelude.{◌≡◌, ◌+◌, ◌<◌, ◌^◌, ◌++◌, IfOk, OnOk, OnErr, codes, decimal};
 ghost use Rattle.std.specs.List.{flat_map};
 ghost use Rattle.reaction_run.specs.declared.reply.Reply.{Reply as AReply};
 ghost use Rattle.hh_base.specs.Literal.{printed as literal};
-ghost use Rattle.scenario_print.specs.Print.{
-  action_text,
-  argument_behind,
-  arguments_text,
-  body_name,
-  carried,
-};
-ghost use Rattle.scenario_print.specs.Print.{effect_line, effect_lines, effect_text, ended_text, fault_word};
+ghost use Rattle.scenario_print.specs.Print.{action_text, argument_behind, arguments_text, body_name, carried};
+ghost use Rattle.scenario_print.specs.Print.{effect_line, effect_lines, effect_text, fault_word};
 ghost use Rattle.scenario_print.specs.Print.{line_end, name_at, number_after, output_text, reason_word};
 ghost use Rattle.scenario_print.specs.Print.{reply_lines, spaced};
 
