@@ -3,4 +3,8 @@
 #![tactic(auto)]
 
 pub mod answer;
+mod deciding;
+mod giving;
+mod judging;
 pub mod step;
+mod telling;
