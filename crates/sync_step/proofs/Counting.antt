@@ -4,13 +4,15 @@ use Rattle.std.proofs.Common.{◌∷◌, ◌++◌, length, map, slice_get, get_o
 use Rattle.std.specs.Prelude.{ℤ, pos, ◌+ℤ◌}
 use Rattle.std.specs.List.{range_with_len}
 use Rattle.std.proofs.lemmas.Int.{ints}
-use Rattle.std.proofs.lemmas.List.{length-map}
+use Rattle.std.proofs.lemmas.List.{length-map, map-append}
+use Rattle.std.proofs.lemmas.List.FromFn.{map-range_with_len_more}
 use Rattle.std.proofs.lemmas.Option.{slice_get-get_or}
 use Rattle.hh_base.specs.declared.value.Kind.{Kind}
 use Rattle.hh_base.specs.declared.value.Value.{Value}
 use Rattle.host_expr.specs.declared.cell.Cell.{Cell}
 use Rattle.host_expr.specs.Combination.{counts_as, numbers_in, whole_sum}
-use Rattle.host_expr.specs.Environment.{Env}
+use Rattle.host_expr.specs.declared.cell.SigCell.{SigCell}
+use Rattle.host_expr.specs.Environment.{Env, env_of}
 use Rattle.hh_term.specs.MustCan.{Table, Bag, cells_of}
 use Rattle.hh_term.specs.Reaction.{Last, Now, outers_from, given_bag, now_of}
 use Rattle.hh_term.specs.Step.{values_of}
@@ -18,8 +20,11 @@ use Rattle.last_walk.specs.declared.last_pass.Emitted.{Emitted}
 use Rattle.last_walk.specs.LastWalk.{Adds, Counts, EmittedMore, sum_of}
 use Rattle.last_walk.specs.Whole.{NoEmissions}
 use Rattle.status_rounds.specs.Given.{given_all, NoneTwice}
-use Rattle.sync_step.specs.Reacting.{Counted, count_of, now_at}
+use Rattle.sync_step.specs.Reacting.{Counted, count_of, now_at, now_by}
+use Rattle.sync_step.specs.declared.answer.SignalNow.{SignalNow}
+use Rattle.sync_step.specs.Told.{now_in}
 use Rattle.sync_step.proofs.Left.{outer_at, given_too}
+use Rattle.sync_step.proofs.Undecided.{env_at}
 
 none_yet : Emitted
 none_yet = record { count = 0; sum = pos 0 }
@@ -73,3 +78,16 @@ module _ (T : Table) (E : Env) (is : List (ℕ × Value)) (twice : NoneTwice is)
       ∙ ap (λ z. now_of E bag (outer_at k is l) ∷ z)
       (ap (λ m. map (now_at E us) (range_with_len m (length ls))) more
       ∙ nows_are (suc k) ls (λ s lt. h s (omega (arith, lt))))
+
+pub now_one : (cells : List SigCell) (em : List Emitted) (n : ℕ) (x : Now) (c : SigCell) (e : Emitted) → n < length cells →
+    c ≡ get_or cells n c → slice_get em n ≡ Some e → x ≡ now_by n c e.count → x ≡ now_at (env_of cells) em n
+now_one cells em n x c e lt here there is =
+    is ∙ ap (λ y. now_by n y e.count) (sym (env_at cells n c lt here))
+    ∙ ap (λ o. now_by n (env_of cells n) (count_of o)) (sym there)
+
+pub now_more : (g : ℕ → Now) (n : ℕ) (vs us : List SignalNow) (x : SignalNow) → map now_in vs ≡ map g (range_with_len 0 n) →
+    us ≡ vs ++ x ∷ [] → now_in x ≡ g n → map now_in us ≡ map g (range_with_len 0 (n + 1))
+now_more g n vs us x h e f =
+    ap (map now_in) e ∙ map-append now_in vs (x ∷ []) ∙ ap (λ z. z ++ now_in x ∷ []) h
+    ∙ ap (λ y. map g (range_with_len 0 n) ++ y ∷ []) f
+    ∙ sym (map-range_with_len_more g 0 n n (let q : 0 + n ≡ n = omega arith in q))

@@ -1,9 +1,12 @@
 -- What a program keeps of the names of its signals: a valued one has a name, and those of one position have one name.
-use Rattle.std.proofs.Common.{◌≡◌, refl, sym, ap, ◌∙◌, subst, ℕ, zero, suc, ◌<◌, Bool, true, Option, Some, None, List, []}
-use Rattle.std.proofs.Common.{◌∷◌, slice_get}
+use Rattle.std.proofs.Common.{◌≡◌, refl, sym, ap, ◌∙◌, subst, ℕ, zero, suc, ◌+◌, ◌<◌, ◌≤◌, Bool, true, Option, Some, None, List, []}
+use Rattle.std.proofs.Common.{◌∷◌, ⊎_elim, length, slice_get, arith}
+use Rattle.std.proofs.lemmas.Bool.{cases_lt}
+use Rattle.std.proofs.lemmas.Option.{slice_get_within}
 use Rattle.std.specs.Prelude.{is_some}
 use Rattle.std.specs.List.{AllByRecursion}
 use Rattle.std.proofs.Math.Bool.{Bool-set}
+use Rattle.std.proofs.Math.Bridge.{le_prop}
 use Rattle.std.proofs.Math.Logic.{∥∥₁_elim}
 use Rattle.std.proofs.Math.Nat.{ℕ_set}
 use mathlib.Core.List.{is_set}
@@ -134,3 +137,24 @@ one_name K s t d e rules h g p =
 -- none of the first n signals is declared here
 abbrev pub NoneBefore : List SignalDecl → ℕ → ℕ → Type 0
 NoneBefore ds pos n = (s : ℕ) (d : SignalDecl) → s < n → slice_get ds s ≡ Some d → d.pos.0 ≡ pos → ⊥
+
+pub none_more : (ds : List SignalDecl) (pos n : ℕ) (x : SignalDecl) → NoneBefore ds pos n → slice_get ds n ≡ Some x →
+    (x.pos.0 ≡ pos → ⊥) → NoneBefore ds pos (n + 1)
+none_more ds pos n x h here other s d lt e p =
+    ⊎_elim (λ below. h s d below e p)
+    (λ le.
+    let same : s ≡ n = omega (arith, lt, le) in
+    other (ap (λ y. y.pos.0) (one x d (sym here ∙ ap (slice_get ds) (sym same) ∙ e)) ∙ p))
+    (cases_lt s n)
+  where
+    one : (x d : SignalDecl) → Some x ≡ Some d → x ≡ d
+    one x d q = cc
+
+pub none_at_all : (ds : List SignalDecl) (pos n : ℕ) → length ds ≤ n → NoneBefore ds pos n → (s : ℕ) (d : SignalDecl) →
+    slice_get ds s ≡ Some d → d.pos.0 ≡ pos → ⊥
+none_at_all ds pos n le h s d e p =
+    let lt = slice_get_within ds s d e in
+    h s d (omega (arith, le, lt)) e p
+
+pub rules_declared : (K : Kernel) → ∥ IsProgram K ∥₁ → K.interface ≤ length K.signals
+rules_declared K rules = ∥∥₁_elim rules le_prop (λ r. r.interface_declared)

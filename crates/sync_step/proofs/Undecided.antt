@@ -4,9 +4,15 @@ use Rattle.std.proofs.Common.{◌&&◌, List, [], ◌∷◌, ◌++◌, length, t
 use Rattle.std.proofs.lemmas.List.{take_more, take_all, length-take-le}
 use Rattle.hh_base.specs.declared.value.Value.{Value}
 use Rattle.hh_base.specs.declared.value.Value.TheVariants as value
-use Rattle.host_expr.specs.Environment.{Env, is_decided, is_known}
+use Rattle.host_expr.specs.declared.cell.SigCell.{SigCell}
+use Rattle.host_expr.specs.Environment.{Env, env_of, is_decided, is_known}
 use Rattle.hh_term.specs.Reaction.{Last, Outer, outers_from, undecided}
 use Rattle.sync_step.proofs.Left.{outer_at}
+
+pub env_at : (cells : List SigCell) (s : ℕ) (c : SigCell) → s < length cells → c ≡ get_or cells s c → env_of cells s ≡ c
+env_at [] s c lt e = absurd (omega arith)
+env_at (x ∷ cells) zero c lt e = sym e
+env_at (x ∷ cells) (suc s) c lt e = env_at cells s c (omega arith) e
 
 abbrev pub is_settled : Env → ℕ → Bool
 is_settled E s = is_decided (E s).status && is_known (E s).value

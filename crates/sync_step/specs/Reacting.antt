@@ -4,6 +4,7 @@ use Rattle.std.specs.List.{range_with_len}
 use Rattle.hh_base.specs.declared.value.Pos.{Pos}
 use Rattle.hh_base.specs.declared.value.FaultKind.{FaultKind}
 use Rattle.hh_base.specs.declared.value.Value.{Value}
+use Rattle.host_expr.specs.declared.cell.SigCell.{SigCell}
 use Rattle.host_expr.specs.Environment.{Env, env_of, is_present}
 use Rattle.hh_term.specs.declared.program.SignalDecl.{SignalDecl}
 use Rattle.hh_term.specs.Kernel.{Kernel}
@@ -47,14 +48,17 @@ abbrev pub count_of : Option Emitted → ℕ
 count_of (Some e) = e.count
 count_of None = 0
 
-abbrev pub now_at : Env → List Emitted → ℕ → reaction.Now
-now_at E emitted s =
+abbrev pub now_by : ℕ → SigCell → ℕ → reaction.Now
+now_by s c emissions =
     record {
       signal = s;
-      emissions = count_of (slice_get emitted s);
-      status = is_present (E s).status;
-      val = value_in (E s).preval (E s).value;
+      emissions = emissions;
+      status = is_present c.status;
+      val = value_in c.preval c.value;
     }
+
+abbrev pub now_at : Env → List Emitted → ℕ → reaction.Now
+now_at E emitted s = now_by s (E s) (count_of (slice_get emitted s))
 
 abbrev pub control_by : ℕ → Option Selection → Control
 control_by last (Some m) = At (marks_numbered last m).0

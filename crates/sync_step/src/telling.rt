@@ -9,10 +9,11 @@ ghost use Rattle.hh_term.specs.Step.{value_in};
 ghost use Rattle.hh_term.specs.Views.{control_of};
 ghost use Rattle.hh_term.specs.declared.program.SignalDecl.{SignalDecl as ASignalDecl};
 ghost use Rattle.last_walk.specs.LastWalk.{selection_at, signal_place};
-ghost use Rattle.sync_step.specs.Reacting.{control_by, now_at, Concluded, Names};
+ghost use Rattle.sync_step.specs.Reacting.{control_by, now_at, now_by, Concluded, Names};
 ghost use Rattle.sync_step.specs.Told.{now_in};
 
 use crate::answer::{SignalNow, Stepped};
+use crate::judging::emissions_of;
 use hh_base::name::Name;
 use hh_base::value::{NoMemory, Tri, Value};
 use hh_term::mark::{Control, Mark};
@@ -33,6 +34,22 @@ fn value_now(alloc: Global, cell: &SigCell) -> Result<Value, NoMemory>
     }
 }
 
+fn signal_now(
+    alloc: Global,
+    signal: u32,
+    cell: &SigCell,
+    emitted: &Emitted,
+) -> Result<SignalNow, NoMemory>
+    ensures { IfOk result (λ n. now_in n ≡ now_by signal cell.now emitted.now.count) }
+{
+    Ok(SignalNow {
+        signal,
+        emissions: emitted.count,
+        status: cell.status == Tri::One,
+        value: value_now(alloc, cell)?,
+    })
+}
+
 /// The first so many signals in a reaction in which they have these cells and these emissions.
 fn signals_now(
     alloc: Global,
@@ -48,12 +65,8 @@ fn signals_now(
     let mut signals = Vec::with_capacity(alloc, count as usize)?;
     for signal in 0..count {
         let cell = &cells[signal as usize];
-        signals.push(SignalNow {
-            signal,
-            emissions: emitted[signal as usize].count,
-            status: cell.status == Tri::One,
-            value: value_now(alloc, cell)?,
-        })?;
+        let met = emissions_of(emitted, signal);
+        signals.push(signal_now(alloc, signal, cell, met)?)?;
     }
     Ok(signals)
 }
