@@ -1,12 +1,14 @@
 -- The parts of a reaction make its outcome.
 use Rattle.std.proofs.Common.{◌≡◌, refl, sym, ap, ◌∙◌, subst, ℕ, ◌+◌, ◌<◌, ◌≤◌, Option, Some, None, List, [], ◌∷◌}
-use Rattle.std.proofs.Common.{◌++◌, length, map, Vec, Global, arith}
+use Rattle.std.proofs.Common.{◌++◌, ◌==◌, true, length, map, eqb-true, Vec, Global, arith}
+use Rattle.std.specs.Vec.{vec_len}
 use Rattle.std.specs.Prelude.{fold, flat_map}
 use Rattle.std.specs.List.{AllByRecursion, range_with_len}
 use Rattle.std.proofs.lemmas.List.{map-append}
 use Rattle.hh_base.specs.declared.value.Pos.{Pos}
 use Rattle.hh_base.specs.declared.value.FaultKind.{FaultKind}
 use Rattle.hh_base.specs.declared.value.Value.{Value}
+use Rattle.host_expr.specs.declared.cell.Cells.{Cells}
 use Rattle.host_expr.specs.declared.cell.SigCell.{SigCell}
 use Rattle.host_expr.specs.Environment.{Env, env_of, blank}
 use Rattle.hh_term.specs.IsProgram.{IsProgram}
@@ -64,7 +66,7 @@ module _ (K : Kernel) (a : AStepped) (doubled : Option ℕ) (named : Names K dou
       let first : ℕ = fold (first_declared (table_of K)) s ss in
       let h : HasName K first = first_of (table_of K) (HasName K) s ss all.0 all.1 in
       let at : h.declared.pos.0 ≡ signal_place (table_of K) first =
-          sym (ap (λ o. (position_in o).0) h.here) in
+      sym (ap (λ o. (position_in o).0) h.here) in
       record {
         name = h.name;
         told = subst (λ o. Names K o a.multiple) t.1 named first h.declared h.here (at ∙ sym t.2) ∙ h.named;
@@ -114,6 +116,37 @@ record Made (T : Table) (o : Option Ran) (ran : ARan) (b0 b1 : LastPass) : Type 
 made_step : (T : Table) (o : Option Ran) (ran : ARan) (b0 b1 : LastPass) → Runs T o (Some ran) b0 b1 → Made T o ran b0 b1
 made_step T (Some r) ran b0 b1 h = record { did = r; is = refl; ran_as = h }
 made_step T None ran b0 b1 h = absurd h
+
+empty : (xs : List ℕ) → length xs ≡ 0 → xs ≡ []
+empty [] e = refl
+empty (x ∷ xs) e = absurd (omega (arith, e))
+
+pub none_left : (v : Vec ℕ Global) → true ≡ (vec_len v == 0) → v.items ≡ []
+none_left v e =
+    let none = eqb-true (vec_len v) 0 (sym e) in
+    empty v.items (omega (arith, none, v.ok))
+
+-- a walk keeps the cells, and how many signals it counts
+pub record Kept (b1 b2 : LastPass) : Type 0 where
+  pub emitted : length b2.emitted.items ≡ length b1.emitted.items
+  pub signals : b2.cells.signals.items ≡ b1.cells.signals.items
+
+pub kept : (T : Table) (o : Option Ran) (ran : ARan) (b1 b2 : LastPass) → Runs T o (Some ran) b1 b2 → Kept b1 b2
+kept T (Some r) ran b1 b2 h = record { emitted = h.noted.emitted.len; signals = h.noted.signals }
+kept T None ran b1 b2 h = absurd h
+
+pub record Opened (cells : Cells) (b0 b1 : LastPass) : Type 0 where
+  pub signals : b1.cells.signals.items ≡ cells.signals.items
+  pub args : b1.cells.args.items ≡ cells.args.items
+  pub emitted : length b1.emitted.items ≡ length cells.signals.items
+
+pub opened : (T : Table) (cells : Cells) (bag : Bag) (b0 b1 : LastPass) → Begun cells b0 → Noted T bag [] [] [] b0 b1 →
+    Opened cells b0 b1
+opened T cells bag b0 b1 h n = record {
+  signals = n.signals ∙ ap (λ z. z.signals.items) h.cells;
+  args = n.args ∙ ap (λ z. z.args.items) h.cells;
+  emitted = n.emitted.len ∙ h.emitted.len;
+}
 
 -- what is met behind may be met before
 turned : {A : Type 0} (place : A → ℕ) (xs ys : List A) → least None (map place (xs ++ ys))
@@ -181,7 +214,7 @@ module _ (K : Kernel) (rules : ∥ IsProgram K ∥₁) (c : Control) (ls : List 
         v.items ≡ [] → Tells K (react T os K.statement c last) (end.Undecided v)
     told_open b1 b2 v e same r none =
         let o : program_step T K.statement c E ≡ None =
-            sym h.step ∙ ap flat_at (sym same) ∙ open_step T (flat_at b1.cells.signals.items) b1 b2 r in
+        sym h.step ∙ ap flat_at (sym same) ∙ open_step T (flat_at b1.cells.signals.items) b1 b2 r in
         decided (end.Undecided v) e
         (subst (λ z. Tells K (concluded T os last E z) (end.Undecided v)) (sym o) none)
 
@@ -242,14 +275,14 @@ module _ (K : Kernel) (rules : ∥ IsProgram K ∥₁) (c : Control) (ls : List 
         completed_are =
             let t = w.told in
             let signals : map now_in a.signals.items ≡ map (now_of E r.stepped.bag) os =
-                t.signals ∙ ap (λ z. map (now_at (env_of z) em) (range_with_len 0 K.interface)) same_cells
-                ∙ ap (λ n. map (now_at E em) (range_with_len 0 n)) (sym many)
-                ∙ nows_are T E is twice r.stepped.bag em 0 ls
-                (λ n lt. all_counted n (omega (arith, lt, many))) in
+            t.signals ∙ ap (λ z. map (now_at (env_of z) em) (range_with_len 0 K.interface)) same_cells
+            ∙ ap (λ n. map (now_at E em) (range_with_len 0 n)) (sym many)
+            ∙ nows_are T E is twice r.stepped.bag em 0 ls
+            (λ n lt. all_counted n (omega (arith, lt, many))) in
             let code : a.code ≡ r.code = t.code ∙ did.code in
             let next : control_of a.next ≡ control_after last r = t.next ∙ ap (control_by last) did.next in
             let touches : map touch_of a.touches.items ≡ numbered last (by_site r.stepped.touches) =
-                t.touches ∙ ap (λ z. numbered last (by_site z)) same_touches in
+            t.touches ∙ ap (λ z. numbered last (by_site z)) same_touches in
             λ i. record { signals = signals i; code = code i; next = next i; touches = touches i }
 
         valued_left : AllValued T r.stepped.doubled → AllValued T (leave_all T os r.stepped).doubled

@@ -33,7 +33,7 @@ same_place m n r q h g e = omega (arith, h, g, e)
 pub place_tells : (f g : Pos × FaultKind) → fault_place f ≡ fault_place g → f ≡ g
 place_tells f g e =
     let at : f.0.0 ≡ g.0.0 =
-        same_place f.0.0 g.0.0 (fault_rank f.1) (fault_rank g.1) (small f.1) (small g.1) e in
+    same_place f.0.0 g.0.0 (fault_rank f.1) (fault_rank g.1) (small f.1) (small g.1) e in
     let kind : f.1 ≡ g.1 = rank_tells f.1 g.1 (omega (arith, e, at)) in
     λ i. (record { 0 = at i }, kind i)
 

@@ -74,8 +74,8 @@ one_given T is k i b0 b1 b2 lt e h g =
     let bag : Bag = given_all (take k is) in
     let one : Bag = (i.0, cell.Known i.1) ∷ [] in
     let is_more : given_all (take (k + 1) is) ≡ bag ++ one =
-        ap given_all (take_more is k i lt) ∙ ap (λ x. given_all (take k is ++ x ∷ [])) (sym e)
-        ∙ map-append (λ i. (i.0, cell.Known i.1)) (take k is) (i ∷ []) in
+    ap given_all (take_more is k i lt) ∙ ap (λ x. given_all (take k is ++ x ∷ [])) (sym e)
+    ∙ map-append (λ i. (i.0, cell.Known i.1)) (take k is) (i ∷ []) in
     subst (λ b. Noted T b [] [] [] b0 b2) (sym is_more) (noted_both T bag one [] [] [] [] [] [] b0 b1 b2 h g)
 
 pub all_given : (T : Table) (is : List (ℕ × Value)) (k : ℕ) (b0 b1 : LastPass) → length is ≤ k →

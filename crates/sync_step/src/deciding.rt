@@ -16,11 +16,7 @@ fn is_settled(cell: &SigCell) -> bool
 }
 
 /// Of the first so many signals those whose status or value is unknown, in order.
-pub fn undecided(
-    alloc: Global,
-    count: u32,
-    cells: &[SigCell],
-) -> Result<Vec<u32>, NoMemory>
+pub fn undecided(alloc: Global, count: u32, cells: &[SigCell]) -> Result<Vec<u32>, NoMemory>
     requires { count ≤ length cells.now }
     ensures { IfOk result (λ v. (is : AList (ℕ × AValue)) (ls : AList Last) → length ls ≡ count →
         v.items ≡ undecided (env_of cells.now) (outers_from 0 is ls)) }

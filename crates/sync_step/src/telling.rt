@@ -103,11 +103,7 @@ fn copy_name(alloc: Global, name: &Option<Name>) -> Result<Option<Name>, NoMemor
     }
 }
 
-fn name_of(
-    alloc: Global,
-    program: &Program,
-    doubled: Option<u32>,
-) -> Result<Option<Name>, NoMemory>
+fn name_of(alloc: Global, program: &Program, doubled: Option<u32>) -> Result<Option<Name>, NoMemory>
     ensures { IfOk result (Names (kernel_of program.now) doubled) }
 {
     match doubled {

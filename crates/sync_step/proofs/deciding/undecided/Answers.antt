@@ -11,9 +11,9 @@ loop-signal-preserved c =
     let lt = c.loop-signal-test.true in
     let cell = c.index-cells-signal.result in
     let here : env_of c.args.cells.now s ≡ cell =
-        env_at c.args.cells.now s cell (omega (arith, lt, c.requires)) c.index-cells-signal.is in
+    env_at c.args.cells.now s cell (omega (arith, lt, c.requires)) c.index-cells-signal.is in
     let settled : is_settled E s ≡ c.is_settled.result =
-        ap (λ x. is_decided x.status && is_known x.value) here ∙ sym c.is_settled.ensures in
+    ap (λ x. is_decided x.status && is_known x.value) here ∙ sym c.is_settled.ensures in
     elim c.if-not-is_settled.branch [
       | then-not-is_settled+in_ok-push w ↦ unsettled_more E c.args.count s c.loop-signal.signals.items
           c.if-not-is_settled.signals.items lt (settled ∙ w.if-not-is_settled.true) c.loop-signal.invariant
