@@ -1,5 +1,5 @@
 -- The parts of a reaction make its outcome.
-use Rattle.std.proofs.Common.{◌≡◌, refl, sym, ap, ◌∙◌, subst, ℕ, ◌+◌, ◌<◌, ◌≤◌, Option, Some, None, List, [], ◌∷◌}
+use Rattle.std.proofs.Common.{◌≡◌, refl, sym, ap, ◌∙◌, subst, ℕ, ◌<◌, Option, Some, None, List, [], ◌∷◌}
 use Rattle.std.proofs.Common.{◌++◌, ◌==◌, true, length, map, eqb-true, Vec, Global, arith}
 use Rattle.std.specs.Vec.{vec_len}
 use Rattle.std.specs.Prelude.{fold, flat_map}
@@ -10,22 +10,22 @@ use Rattle.hh_base.specs.declared.value.FaultKind.{FaultKind}
 use Rattle.hh_base.specs.declared.value.Value.{Value}
 use Rattle.host_expr.specs.declared.cell.Cells.{Cells}
 use Rattle.host_expr.specs.declared.cell.SigCell.{SigCell}
-use Rattle.host_expr.specs.Environment.{Env, env_of, blank}
+use Rattle.host_expr.specs.Environment.{Env, env_of}
 use Rattle.hh_term.specs.IsProgram.{IsProgram}
 use Rattle.hh_term.specs.Kernel.{Kernel}
 use Rattle.hh_term.specs.MustCan.{Table, table_of, Bag}
-use Rattle.hh_term.specs.Reaction.{Last, Outer, Now, Ran, Completed, Outcome, Undecided, Doubled, Faulted, Completes}
-use Rattle.hh_term.specs.Reaction.{outers_from, undecided, solved, program_must_can, program_step, concluded, judged}
+use Rattle.hh_term.specs.Reaction.{Last, Outer, Ran, Completed, Outcome, Undecided, Doubled, Faulted, Completes}
+use Rattle.hh_term.specs.Reaction.{outers_from, undecided, program_step, concluded, judged}
 use Rattle.hh_term.specs.Reaction.{completed, react, leave_all, first_declared, earlier, control_after, now_of, given_bag}
-use Rattle.hh_term.specs.Selection.{Selection, Control}
+use Rattle.hh_term.specs.Selection.{Control}
 use Rattle.hh_term.specs.Step.{Stepped, doubled_by, overflow_by, values_of}
-use Rattle.hh_term.specs.Touches.{Touch, by_site, numbered}
+use Rattle.hh_term.specs.Touches.{by_site, numbered}
 use Rattle.hh_term.specs.Views.{control_of}
 use Rattle.hh_term.specs.declared.program.SignalDecl.{SignalDecl}
 use Rattle.last_walk.specs.declared.last_pass.Emitted.{Emitted}
 use Rattle.last_walk.specs.declared.last_pass.LastPass.{LastPass}
 use Rattle.last_walk.specs.declared.whole.Ran.{Ran as ARan}
-use Rattle.last_walk.specs.LastWalk.{touch_of, selection_at, least, fault_place, place_of_fault, signal_place}
+use Rattle.last_walk.specs.LastWalk.{touch_of, least, fault_place, place_of_fault, signal_place}
 use Rattle.last_walk.specs.LastWalk.{place_of_signal, Noted}
 use Rattle.last_walk.specs.Whole.{Begun, RanAs, Runs}
 use Rattle.last_walk.proofs.Least.{least_turn}
@@ -39,7 +39,7 @@ use Rattle.sync_step.specs.declared.answer.Stepped.{Stepped as AStepped}
 use Rattle.sync_step.specs.declared.answer.StepEnd.{StepEnd}
 use Rattle.sync_step.specs.declared.answer.StepEnd.TheVariants as end
 use Rattle.sync_step.specs.Reacting.{Concluded, Counted, JudgedAll, Names, control_by, doubles, now_at, overflows}
-use Rattle.sync_step.specs.Told.{Tells, IsRefusedFor, completed_in, declared_name, now_in}
+use Rattle.sync_step.specs.Told.{Tells, IsRefusedFor, completed_in, now_in}
 use Rattle.sync_step.proofs.Counting.{counted, nows_are}
 use Rattle.sync_step.proofs.Doubled.{AllValued, all_both, doubled_valued, program_valued}
 use Rattle.sync_step.proofs.Firsts.{first_fault, first_of, first_signal, no_fault, no_signal}

@@ -1,5 +1,5 @@
 -- The emissions of each signal are those that ran, and those of the interface are told so.
-use Rattle.std.proofs.Common.{◌≡◌, refl, sym, ap, ◌∙◌, subst, ℕ, zero, suc, ◌+◌, ◌<◌, ◌≤◌, Option, Some, None, List, []}
+use Rattle.std.proofs.Common.{◌≡◌, refl, sym, ap, ◌∙◌, subst, ℕ, suc, ◌+◌, ◌<◌, Some, List, []}
 use Rattle.std.proofs.Common.{◌∷◌, ◌++◌, length, map, slice_get, get_or, arith}
 use Rattle.std.specs.Prelude.{ℤ, pos, ◌+ℤ◌}
 use Rattle.std.specs.List.{range_with_len}
@@ -10,11 +10,11 @@ use Rattle.std.proofs.lemmas.Option.{slice_get-get_or}
 use Rattle.hh_base.specs.declared.value.Kind.{Kind}
 use Rattle.hh_base.specs.declared.value.Value.{Value}
 use Rattle.host_expr.specs.declared.cell.Cell.{Cell}
-use Rattle.host_expr.specs.Combination.{counts_as, numbers_in, whole_sum}
+use Rattle.host_expr.specs.Combination.{counts_as}
 use Rattle.host_expr.specs.declared.cell.SigCell.{SigCell}
 use Rattle.host_expr.specs.Environment.{Env, env_of}
 use Rattle.hh_term.specs.MustCan.{Table, Bag, cells_of}
-use Rattle.hh_term.specs.Reaction.{Last, Now, outers_from, given_bag, now_of}
+use Rattle.hh_term.specs.Reaction.{Last, Now, outers_from, now_of}
 use Rattle.hh_term.specs.Step.{values_of}
 use Rattle.last_walk.specs.declared.last_pass.Emitted.{Emitted}
 use Rattle.last_walk.specs.LastWalk.{Adds, Counts, EmittedMore, sum_of}

@@ -1,6 +1,6 @@
 -- The first of faults and of doubled signals is that of least place.
-use Rattle.std.proofs.Common.{◌≡◌, refl, sym, ap, ◌∙◌, subst, ℕ, suc, ◌+◌, ◌*◌, ◌<◌, ◌≤◌, Bool, true, false, cond}
-use Rattle.std.proofs.Common.{◌&&◌, ◌||◌, ◌==◌, Option, Some, None, List, [], ◌∷◌, ◌++◌, map, arith, eqb-true}
+use Rattle.std.proofs.Common.{◌≡◌, refl, sym, ap, ◌∙◌, ℕ, ◌+◌, ◌*◌, ◌<◌, Bool, true, false, cond}
+use Rattle.std.proofs.Common.{◌&&◌, ◌||◌, ◌==◌, Option, Some, None, List, [], ◌∷◌, map, arith, eqb-true}
 use Rattle.std.specs.Prelude.{nat_lt, min, fold}
 use Rattle.std.specs.List.{AllByRecursion}
 use Rattle.std.proofs.lemmas.Bool.{ltb-true, ltb-false, eqb-false}
@@ -9,7 +9,7 @@ use Rattle.hh_base.specs.declared.value.FaultKind.{FaultKind}
 use Rattle.hh_base.specs.declared.value.FaultKind.TheVariants.{Divide, Overflow, TextLong}
 use Rattle.hh_term.specs.MustCan.{Table}
 use Rattle.hh_term.specs.Reaction.{fault_rank, is_earlier, earlier, first_declared}
-use Rattle.last_walk.specs.LastWalk.{least, lesser, fault_place, place_of_fault, signal_place, place_of_signal}
+use Rattle.last_walk.specs.LastWalk.{least, fault_place, place_of_fault, signal_place, place_of_signal}
 
 small : (k : FaultKind) → fault_rank k < 3
 small Divide = omega arith

@@ -1,13 +1,11 @@
 -- What is said of the interface signals where they are left: each is judged by its own emissions, those that were
 -- given among them.
-use Rattle.std.proofs.Common.{◌≡◌, ◌≢◌, refl, sym, ap, ◌∙◌, subst, ℕ, zero, suc, ◌+◌, ◌<◌, ◌≤◌, Bool, true, false}
+use Rattle.std.proofs.Common.{◌≡◌, ◌≢◌, refl, sym, ap, ◌∙◌, ℕ, suc, ◌+◌, ◌<◌, Bool, true, false}
 use Rattle.std.proofs.Common.{cond, ◌==◌, Option, Some, None, List, [], ◌∷◌, ◌++◌, length, map, arith, eqb-true, eq-eqb}
 use Rattle.std.proofs.Common.{append_assoc}
 use Rattle.std.specs.Prelude.{flat_map}
 use Rattle.std.specs.List.{AllByRecursion, range_with_len}
 use Rattle.std.proofs.lemmas.Bool.{eqb-false}
-use Rattle.hh_base.specs.declared.value.Pos.{Pos}
-use Rattle.hh_base.specs.declared.value.FaultKind.{FaultKind}
 use Rattle.hh_base.specs.declared.value.Value.{Value}
 use Rattle.host_expr.specs.declared.cell.Cell.{Cell}
 use Rattle.host_expr.specs.declared.cell.Cell.TheVariants as cell

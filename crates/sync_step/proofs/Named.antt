@@ -12,14 +12,12 @@ use Rattle.std.proofs.Math.Nat.{ℕ_set}
 use mathlib.Core.List.{is_set}
 use Rattle.hh_base.specs.declared.value.Kind.{Kind}
 use Rattle.hh_base.specs.declared.value.Kind.TheVariants as kind
-use Rattle.hh_base.specs.declared.value.Pos.{Pos}
 use Rattle.hh_base.specs.Value.{is_valued}
 use Rattle.hh_term.specs.declared.program.SignalDecl.{SignalDecl}
 use Rattle.hh_term.specs.Fits.{SignalFits, IsNamed}
 use Rattle.hh_term.specs.IsProgram.{IsProgram, NamesGoByPosition}
 use Rattle.hh_term.specs.Kernel.{Kernel}
 use Rattle.hh_term.specs.MustCan.{table_of}
-use Rattle.hh_term.specs.Pairs.{EachPair}
 use Rattle.sync_step.proofs.Doubled.{IsValued, AllValued}
 
 -- ---- a valued signal

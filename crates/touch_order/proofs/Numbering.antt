@@ -1,6 +1,6 @@
 -- Touches are numbered one after the other.
-use Rattle.std.proofs.Common.{◌≡◌, refl, sym, ap, ◌∙◌, subst, ℕ, zero, suc, ◌+◌, ◌<◌, ◌≤◌, List, [], ◌∷◌, ◌++◌}
-use Rattle.std.proofs.Common.{length, map, set, get_or, take, drop, append-nil, arith}
+use Rattle.std.proofs.Common.{◌≡◌, refl, sym, ap, ◌∙◌, ℕ, zero, suc, ◌+◌, ◌<◌, ◌≤◌, List, [], ◌∷◌, ◌++◌}
+use Rattle.std.proofs.Common.{length, map, set, get_or, take, drop, arith}
 use Rattle.hh_term.specs.Touches.{Touch, numbered}
 use Rattle.last_walk.specs.declared.touch.Touch.{Touch as ATouch}
 use Rattle.last_walk.specs.LastWalk.{touch_of}

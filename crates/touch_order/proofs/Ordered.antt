@@ -1,13 +1,13 @@
 -- What a stable sort by sites makes of touches.
-use Rattle.std.proofs.Common.{◌≡◌, refl, sym, ap, ◌∙◌, subst, ℕ, zero, suc, ◌+◌, ◌<◌, ◌≤◌, Bool, true, false, cond}
+use Rattle.std.proofs.Common.{◌≡◌, refl, sym, ap, ◌∙◌, ℕ, suc, ◌<◌, ◌≤◌, Bool, true, false, cond}
 use Rattle.std.proofs.Common.{not, ◌&&◌, ◌==◌, None, List, [], ◌∷◌, length, map, get_or, arith, eqb-true}
 use Rattle.std.specs.Prelude.{nat_lt}
 use Rattle.std.specs.List.{filter}
-use Rattle.std.specs.List.Sorted.{IsNonDecreasingBy, IsStableByKey, ties}
+use Rattle.std.specs.List.Sorted.{IsNonDecreasingBy, IsStableByKey}
 use Rattle.std.specs.Ordering.{is_lt, nat_cmp}
 use Rattle.std.specs.declared.cmp.Ordering.TheVariants.{Less, Equal, Greater}
-use Rattle.std.proofs.lemmas.Bool.{ltb-true, ltb-false, eq-eqb, eqb-false}
-use Rattle.hh_term.specs.Touches.{Touch, by_site}
+use Rattle.std.proofs.lemmas.Bool.{ltb-true, ltb-false, eq-eqb}
+use Rattle.hh_term.specs.Touches.{by_site}
 use Rattle.last_walk.specs.declared.touch.Touch.{Touch as ATouch}
 use Rattle.last_walk.specs.LastWalk.{touch_of}
 use Rattle.touch_order.proofs.Sorting.{at_site, AllFrom, Rises, by_site_rises, by_site_at, only_one}

@@ -1,9 +1,9 @@
 -- Of the lists in rising site one alone has the same touches at each site in the same order.
-use Rattle.std.proofs.Common.{◌≡◌, ◌≢◌, refl, sym, ap, ◌∙◌, ℕ, zero, suc, ◌<◌, ◌≤◌, Bool, true, false, cond, subst}
+use Rattle.std.proofs.Common.{◌≡◌, refl, sym, ap, ◌∙◌, ℕ, ◌<◌, ◌≤◌, Bool, true, false, cond, subst}
 use Rattle.std.proofs.Common.{◌==◌, List, [], ◌∷◌, arith, eqb-true, eq-eqb}
 use Rattle.std.specs.Prelude.{nat_le}
 use Rattle.std.specs.List.{AllByRecursion}
-use Rattle.std.proofs.lemmas.Bool.{eqb-false, leb-true, leb-false}
+use Rattle.std.proofs.lemmas.Bool.{leb-true, leb-false}
 use Rattle.hh_term.specs.Touches.{Touch, in_place, by_site}
 
 abbrev pub at_site : ℕ → List Touch → List Touch

@@ -1,4 +1,4 @@
-use Rattle.std.proofs.Common.{◌≡◌, sym, ap, subst, ◌∙◌, length, [], Some, None, arith}
+use Rattle.std.proofs.Common.{◌≡◌, sym, ap, subst, ◌∙◌, length, [], arith}
 use Rattle.std.proofs.lemmas.List.{length-map}
 use Rattle.host_expr.specs.Environment.{env_of}
 use Rattle.hh_term.specs.MustCan.{table_of}
@@ -12,7 +12,7 @@ use Rattle.status_table.specs.TableView.{cells_in}
 use Rattle.status_table.specs.Walking.{Fits}
 use Rattle.status_table.specs.WholeProgram.{program_flat_step}
 use Rattle.sync_step.specs.Reacting.{Concluded, JudgedAll}
-use Rattle.sync_step.proofs.Answering.{kept, none_left, opened, told_open, told_stepped, told_undecided}
+use Rattle.sync_step.proofs.Answering.{kept, none_left, opened, told_open, told_stepped}
 use Rattle.sync_step.proofs.Named.{rules_declared}
 use Rattle.sync_step.proofs.step.step.Goals as goal
 

@@ -1,4 +1,4 @@
-use Rattle.std.proofs.Common.{ap, sym, ◌∙◌, refl, slice_get, arith}
+use Rattle.std.proofs.Common.{ap, sym, ◌∙◌, refl, slice_get}
 use Rattle.hh_term.specs.ProgramView.{kernel_of}
 use Rattle.status_table.proofs.Reading.{read_here}
 use Rattle.sync_step.proofs.Named.{none_at_all, none_more, one_name}
