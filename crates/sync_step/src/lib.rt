@@ -1,0 +1,10 @@
+//! One reaction of a program: rounds decide its interface, the last walk makes its step, and the answer tells
+//! its outcome.
+#![tactic(auto)]
+
+pub mod answer;
+mod deciding;
+mod giving;
+mod judging;
+pub mod step;
+mod telling;

@@ -1,0 +1,3 @@
+pub mod Sorting
+pub mod Ordered
+pub mod Numbering
