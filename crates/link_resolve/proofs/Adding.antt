@@ -1,9 +1,9 @@
 -- Modules that are run by pieces of a text that are put together.
 use Rattle.std.proofs.Common.{◌≡◌, ℕ, ◌+◌, ◌<◌, ◌≤◌, List, [], ◌∷◌, ◌++◌, map, length, take, get_or, refl, sym, ap, subst}
-use Rattle.std.proofs.Common.{◌∙◌, append-nil, append_assoc, Option, Some, None, Result, Ok, Err}
+use Rattle.std.proofs.Common.{◌∙◌, append-nil, append_assoc, Option, Some, None, option_map, Result, Ok, Err}
 use Rattle.std.specs.Prelude.{OnOk}
 use Rattle.std.proofs.lemmas.List.{map-append, take_all, take_more}
-use Rattle.std.proofs.lemmas.List.Elements.{flat_map-append}
+use Rattle.std.proofs.lemmas.List.Concat.{flat_map-append}
 use Rattle.module_tree.specs.declared.source.NameAt.{NameAt}
 use Rattle.module_tree.specs.declared.source.Binding.{Binding}
 use Rattle.module_tree.specs.declared.source.SignalNode.{SignalNode}
@@ -18,10 +18,13 @@ use Rattle.module_tree.specs.declared.source.Statement.TheOpen as s
 use Rattle.module_tree.specs.declared.source.Statement.TheFolds.{fold-roll-Statement, map-Statement}
 use Rattle.module_tree.specs.declared.source.Statement.TheFolds.{fold_out-StatementNode, fold_out-BlockNode}
 use Rattle.module_tree.specs.Scopes.{InScope, Declared}
-use Rattle.module_tree.specs.Parts.{Walk, Placed, StatementPart, Call, empty, here, then, in_order, if_there}
+use Rattle.module_tree.specs.declared.source.ExprAt.{ExprAt}
+use Rattle.module_tree.specs.Parts.{Walk, Placed, StatementPart, Test, Call, empty, here, then, in_order, if_there}
 use Rattle.module_tree.specs.Parts.{plain_walk, delay_walk, locals_walk, trap_walk, statement_step, block_step}
 use Rattle.module_tree.specs.Parts.{block_walk}
-use Rattle.module_tree.specs.Runs.{callee_of}
+use Rattle.module_tree.specs.declared.source.Part.{Part}
+use Rattle.module_tree.specs.declared.source.Part.TheVariants as part
+use Rattle.module_tree.specs.Runs.{callee_of, callees_of, runs_of}
 use Rattle.link_resolve.specs.CalleesAdded.{AddsCallees, callees_in, statement_walk, node_walk}
 
 pub adds_nothing : (w : Walk ℕ) (old : List ℕ)
@@ -110,7 +113,7 @@ no_plain : (p : Later ℕ) (scope : InScope) (before : Declared)
 no_plain (plain.Once x) scope before = refl
 no_plain (plain.Count n x) scope before = refl
 
-no_delay : (d : Delay ℕ) (scope : InScope) (before : Declared)
+pub no_delay : (d : Delay ℕ) (scope : InScope) (before : Declared)
     → callees_in (delay_walk d scope before).parts ≡ []
 no_delay (delay.Later p) scope before = no_plain p scope before
 no_delay (delay.Immediate x) scope before = refl
@@ -159,3 +162,46 @@ pub adds_block : {E : Type 0} (b : BlockNode ℕ) (nodes : List (StatementNode �
 adds_block b nodes r old new e h = subst (λ (w : Walk ℕ). OnOk r (AddsCallees w old new))
     (sym (fold_out-BlockNode ℕ (Walk ℕ) (Walk ℕ) (Walk ℕ) statement_step block_step (λ n. n.what) b))
     (subst (λ (ns : List (StatementNode ℕ)). OnOk r (AddsCallees (in_order (map node_walk ns)) old new)) e h)
+
+-- ---- what may be missing
+
+pub adds_missing : (o : Option (BlockNode ℕ)) (old : List ℕ) → o ≡ None
+    → AddsCallees (if_there (option_map block_walk o)) old old
+adds_missing o old e = subst (λ (q : Option (BlockNode ℕ)). AddsCallees (if_there (option_map block_walk q)) old
+    old) (sym e) (adds_nothing empty old (λ scope before. refl))
+
+pub adds_there : {E : Type 0} (o : Option (BlockNode ℕ)) (b : BlockNode ℕ) (r : Result (Unit {0}) E)
+    (old new : List ℕ) → o ≡ Some b → OnOk r (AddsCallees (block_walk b) old new)
+    → OnOk r (AddsCallees (if_there (option_map block_walk o)) old new)
+adds_there o b r old new e = subst (λ (q : Option (BlockNode ℕ)). OnOk r
+    (AddsCallees (if_there (option_map block_walk q)) old new)) (sym e)
+
+if_walk : (x : ExprAt ℕ) (b : BlockNode ℕ) (o : Option (BlockNode ℕ))
+    → then (here (Test x)) (then (block_walk b) (if_there (option_map block_walk o))) ≡ statement_step
+    (walks_in (s.If x b o))
+if_walk x b None = refl
+if_walk x b (Some o) = refl
+
+pub adds_if : (x : ExprAt ℕ) (b : BlockNode ℕ) (o : Option (BlockNode ℕ)) (old mid new : List ℕ)
+    → AddsCallees (block_walk b) old mid → AddsCallees (if_there (option_map block_walk o)) mid new
+    → AddsCallees (statement_step (walks_in (s.If x b o))) old new
+adds_if x b o old mid new h g =
+    let other = if_there (option_map block_walk o) in
+    subst (λ (w : Walk ℕ). AddsCallees w old new) (if_walk x b o)
+    (adds_behind (Test x) (then (block_walk b) other) old new refl
+    (adds_then (block_walk b) other old mid new h g))
+
+-- ---- texts
+
+runs_joined : (xs : List (Part ℕ)) (t : Part ℕ) → runs_of (xs ++ t ∷ []) ≡ runs_of xs ++ runs_of (t ∷ [])
+runs_joined [] t = refl
+runs_joined (part.Module m ∷ xs) t = ap (λ rs. callees_of m ∷ rs) (runs_joined xs t)
+runs_joined (part.Body b ∷ xs) t = runs_joined xs t
+runs_joined (part.Host h ∷ xs) t = runs_joined xs t
+
+pub runs_more : (xs : List (Part ℕ)) (i : ℕ) (t : Part ℕ) (old new : List (List ℕ)) → i < length xs
+    → t ≡ get_or xs i t → old ≡ runs_of (take i xs) → new ≡ old ++ runs_of (t ∷ [])
+    → new ≡ runs_of (take (i + 1) xs)
+runs_more xs i t old new lt is before added =
+    added ∙ ap (λ rs. rs ++ runs_of (t ∷ [])) before ∙ sym (runs_joined (take i xs) t)
+    ∙ ap runs_of (sym (take_more xs i t lt ∙ ap (λ (y : Part ℕ). take i xs ++ y ∷ []) (sym is)))

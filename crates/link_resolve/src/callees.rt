@@ -1,7 +1,7 @@
 //! Which modules the modules of a text run, once names are resolved.
 
-ghost use Rattle.std.specs.Prelude.{◌≡◌, map, IfOk, OnOk};
-ghost use Rattle.module_tree.specs.Parts.{block_walk, in_order};
+ghost use Rattle.std.specs.Prelude.{◌≡◌, [], ◌∷◌, ◌++◌, map, option_map, IfOk, OnOk};
+ghost use Rattle.module_tree.specs.Parts.{block_walk, in_order, if_there};
 ghost use Rattle.module_tree.specs.Runs.{callees_of, runs_of};
 ghost use Rattle.link_resolve.specs.CalleesAdded.{AddsCallees, statement_walk, node_walk};
 
@@ -14,10 +14,23 @@ use std::alloc::Global;
 fn add_of_blocks(callees: &mut Items<u32>, blocks: &[BlockNode<u32>]) -> Result<(), NoMemory>
     ensures { OnOk result (AddsCallees (in_order (map block_walk blocks.now)) callees.old callees.new) }
 {
-    'blocks: for block in blocks {
+    'each_block: for block in blocks {
         add_of_block(callees, block)?;
     }
     Ok(())
+}
+
+#[cycle(callees)]
+fn add_of_otherwise(
+    callees: &mut Items<u32>,
+    block: &Option<BlockNode<u32>>,
+) -> Result<(), NoMemory>
+    ensures { OnOk result (AddsCallees (if_there (option_map block_walk block.now)) callees.old callees.new) }
+{
+    match block {
+        None => Ok(()),
+        Some(block) => add_of_block(callees, block),
+    }
 }
 
 #[cycle(callees)]
@@ -33,10 +46,9 @@ fn add_of_statement(
         Statement::Halt => Ok(()),
         Statement::Emit(_, _) => Ok(()),
         Statement::Sustain(_, _) => Ok(()),
-        Statement::If(_, yes, None) => add_of_block(callees, yes),
-        Statement::If(_, yes, Some(other)) => {
+        Statement::If(_, yes, other) => {
             add_of_block(callees, yes)?;
-            add_of_block(callees, other)
+            add_of_otherwise(callees, other)
         }
         Statement::Loop(block) => add_of_block(callees, block),
         Statement::Fork(blocks) => add_of_blocks(callees, blocks.as_slice()),
@@ -66,7 +78,7 @@ fn add_of_node(callees: &mut Items<u32>, node: &StatementNode<u32>) -> Result<()
 fn add_of_nodes(callees: &mut Items<u32>, nodes: &[StatementNode<u32>]) -> Result<(), NoMemory>
     ensures { OnOk result (AddsCallees (in_order (map node_walk nodes.now)) callees.old callees.new) }
 {
-    'nodes: for node in nodes {
+    'each_node: for node in nodes {
         add_of_node(callees, node)?;
     }
     Ok(())
@@ -88,15 +100,28 @@ fn callees_of(alloc: Global, node: &ModuleNode<u32>) -> Result<Items<u32>, NoMem
     Ok(callees)
 }
 
+/// What a part of a text runs, if it is a module.
+fn add_runs(
+    alloc: Global,
+    runs: &mut Vec<Items<u32>>,
+    part: &Part<u32>,
+) -> Result<(), NoMemory>
+    ensures { OnOk result (runs.new.items ≡ runs.old.items ++ runs_of (part.now ∷ [])) }
+{
+    match part {
+        Part::Body(_) => Ok(()),
+        Part::Host(_) => Ok(()),
+        Part::Module(node) => Ok(runs.push(callees_of(alloc, node)?)?),
+    }
+}
+
 /// For each module, by its place, those that it runs.
 pub fn runs_of(alloc: Global, parts: &[Part<u32>]) -> Result<Vec<Items<u32>>, NoMemory>
     ensures { IfOk result (λ runs. runs.items ≡ runs_of parts.now) }
 {
     let mut runs = Vec::new(alloc);
     'parts: for part in parts {
-        if let Part::Module(node) = part {
-            runs.push(callees_of(alloc, node)?)?;
-        }
+        add_runs(alloc, &mut runs, part)?;
     }
     Ok(runs)
 }

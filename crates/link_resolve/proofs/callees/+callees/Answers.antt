@@ -7,19 +7,19 @@ use Rattle.module_tree.specs.Parts.{Test, Locals, empty, then, in_order, block_w
 use Rattle.module_tree.specs.Scopes.{with_signals, with_trap}
 use Rattle.link_resolve.specs.CalleesAdded.{AddsCallees, node_walk}
 use Rattle.link_resolve.proofs.Adding.{adds_nothing, adds_then, adds_more, adds_by_step, adds_made, adds_leaf, lifted}
-use Rattle.link_resolve.proofs.Adding.{adds_delayed, adds_all, adds_node, adds_block}
+use Rattle.link_resolve.proofs.Adding.{adds_delayed, adds_all, adds_node, adds_block, adds_missing, adds_there, adds_if}
 use Rattle.link_resolve.proofs.Adding.{adds_behind, adds_before, adds_deeper, adds_run, no_delay}
 use Rattle.link_resolve.proofs.callees.+callees.Goals as goal
 
-pub add_of_blocks-blocks-preserved : goal.add_of_blocks-blocks-preserved
-add_of_blocks-blocks-preserved t c = adds_more block_walk c.args.blocks.now c.blocks.block-index c.block-item.result
-    c.args.callees.now c.blocks.callees c.add_of_block.new.callees c.blocks-test.true c.block-item.is
-    c.blocks.invariant c.in_ok-add_of_block.ensures
+pub add_of_blocks-each_block-preserved : goal.add_of_blocks-each_block-preserved
+add_of_blocks-each_block-preserved t c = adds_more block_walk c.args.blocks.now c.each_block.block-index c.block-item.result
+    c.args.callees.now c.each_block.callees c.add_of_block.new.callees c.each_block-test.true c.block-item.is
+    c.each_block.invariant c.in_ok-add_of_block.ensures
 
-pub add_of_nodes-nodes-preserved : goal.add_of_nodes-nodes-preserved
-add_of_nodes-nodes-preserved t c = adds_more node_walk c.args.nodes.now c.nodes.node-index c.node-item.result
-    c.args.callees.now c.nodes.callees c.add_of_node.new.callees c.nodes-test.true c.node-item.is
-    c.nodes.invariant c.in_ok-add_of_node.ensures
+pub add_of_nodes-each_node-preserved : goal.add_of_nodes-each_node-preserved
+add_of_nodes-each_node-preserved t c = adds_more node_walk c.args.nodes.now c.each_node.node-index c.node-item.result
+    c.args.callees.now c.each_node.callees c.add_of_node.new.callees c.each_node-test.true c.node-item.is
+    c.each_node.invariant c.in_ok-add_of_node.ensures
 
 pub add_of_statement-returns-in-Nothing : goal.add_of_statement-returns-in-Nothing
 add_of_statement-returns-in-Nothing t c =
@@ -160,12 +160,12 @@ add_of_statement-returns-in-Fork t c =
     old c.add_of_blocks.new.callees)) c.as_slice.ensures c.add_of_blocks.ensures)
 
 pub add_of_nodes-returns : goal.add_of_nodes-returns
-add_of_nodes-returns t c = adds_all node_walk c.args.nodes.now c.nodes.node-index c.args.callees.now c.nodes.callees
-    (omega arith) c.nodes.invariant
+add_of_nodes-returns t c = adds_all node_walk c.args.nodes.now c.each_node.node-index c.args.callees.now c.each_node.callees
+    (omega arith) c.each_node.invariant
 
 pub add_of_blocks-returns : goal.add_of_blocks-returns
-add_of_blocks-returns t c = adds_all block_walk c.args.blocks.now c.blocks.block-index c.args.callees.now
-    c.blocks.callees (omega arith) c.blocks.invariant
+add_of_blocks-returns t c = adds_all block_walk c.args.blocks.now c.each_block.block-index c.args.callees.now
+    c.each_block.callees (omega arith) c.each_block.invariant
 
 pub add_of_node-returns : goal.add_of_node-returns
 add_of_node-returns t c = adds_node c.args.node.now c.add_of_statement.result c.args.callees.now
@@ -175,31 +175,20 @@ pub add_of_block-returns : goal.add_of_block-returns
 add_of_block-returns t c = adds_block c.args.block.now c.as_slice.result.now c.add_of_nodes.result
     c.args.callees.now c.add_of_nodes.new.callees c.as_slice.ensures c.add_of_nodes.ensures
 
-pub add_of_statement-returns-in-If-default-default-None : goal.add_of_statement-returns-in-If-default-default-None
-add_of_statement-returns-in-If-default-default-None t c =
-    let x = c.args.statement.now in
-    let old = c.args.callees.now in
-    let new = c.add_of_block.new.callees in
-    let w = c.in-If-default-default-None in
-    let b = block_walk w.yes in
-    adds_by_step (s.If w.field-0 w.yes None) x c.add_of_block.result old new
-    (v.rolls-If w.field-0 w.yes None ∙ ap (λ o. v.If w.field-0 w.yes o) (sym w.field-2-is) ∙ sym w.is)
-    (lifted c.add_of_block.result (λ h. adds_behind (Test w.field-0) (then b empty) old new refl
-    (adds_then b empty old new new h (adds_nothing empty new (λ scope before. refl)))) c.add_of_block.ensures)
+pub add_of_otherwise-returns-in-None : goal.add_of_otherwise-returns-in-None
+add_of_otherwise-returns-in-None t c = adds_missing c.args.block.now c.args.callees.now c.in-None.is
 
-pub add_of_statement-returns-in-If-default-default-Some : goal.add_of_statement-returns-in-If-default-default-Some
-add_of_statement-returns-in-If-default-default-Some t c =
+pub add_of_otherwise-returns-in-Some : goal.add_of_otherwise-returns-in-Some
+add_of_otherwise-returns-in-Some t c = adds_there c.args.block.now c.in-Some.block c.add_of_block.result
+    c.args.callees.now c.add_of_block.new.callees c.in-Some.is c.add_of_block.ensures
+
+pub add_of_statement-returns-in_ok-add_of_block-in-If : goal.add_of_statement-returns-in_ok-add_of_block-in-If
+add_of_statement-returns-in_ok-add_of_block-in-If t c =
     let x = c.args.statement.now in
     let old = c.args.callees.now in
-    let mid = c.add_of_block-in-If-default-default-Some.new.callees in
-    let new = c.add_of_block-in-If-default-default-Some-2.new.callees in
-    let w = c.in-If-default-default-Some in
-    let b = block_walk w.yes in
-    let o = block_walk w.other in
-    adds_by_step (s.If w.field-0 w.yes (Some w.other)) x c.add_of_block-in-If-default-default-Some-2.result
-    old new
-    (v.rolls-If w.field-0 w.yes (Some w.other) ∙ ap (λ o. v.If w.field-0 w.yes o) (sym w.field-2-is) ∙ sym w.is)
-    (lifted c.add_of_block-in-If-default-default-Some-2.result
-    (λ h. adds_behind (Test w.field-0) (then b o) old new refl
-    (adds_then b o old mid new c.in_ok-add_of_block-in-If-default-default-Some.ensures h))
-    c.add_of_block-in-If-default-default-Some-2.ensures)
+    let new = c.add_of_otherwise.new.callees in
+    let w = c.in-If in
+    adds_by_step (s.If w.field-0 w.yes w.other) x c.add_of_otherwise.result old new
+    (v.rolls-If w.field-0 w.yes w.other ∙ sym w.is)
+    (lifted c.add_of_otherwise.result (adds_if w.field-0 w.yes w.other old c.add_of_block.new.callees new
+    c.in_ok-add_of_block-in-If.ensures) c.add_of_otherwise.ensures)
