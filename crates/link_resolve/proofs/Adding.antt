@@ -6,7 +6,6 @@ use Rattle.std.proofs.lemmas.List.{map-append, take_all, take_more}
 use Rattle.std.proofs.lemmas.List.Concat.{flat_map-append}
 use Rattle.module_tree.specs.declared.source.NameAt.{NameAt}
 use Rattle.module_tree.specs.declared.source.Binding.{Binding}
-use Rattle.module_tree.specs.declared.source.SignalNode.{SignalNode}
 use Rattle.module_tree.specs.declared.source.Later.{Later}
 use Rattle.module_tree.specs.declared.source.Later.TheVariants as plain
 use Rattle.module_tree.specs.declared.source.Delay.{Delay}
@@ -20,8 +19,9 @@ use Rattle.module_tree.specs.declared.source.Statement.TheFolds.{fold_out-Statem
 use Rattle.module_tree.specs.Scopes.{InScope, Declared}
 use Rattle.module_tree.specs.declared.source.ExprAt.{ExprAt}
 use Rattle.module_tree.specs.Parts.{Walk, Placed, StatementPart, Test, Call, empty, here, then, in_order, if_there}
-use Rattle.module_tree.specs.Parts.{plain_walk, delay_walk, locals_walk, trap_walk, statement_step, block_step}
+use Rattle.module_tree.specs.Parts.{plain_walk, delay_walk, statement_step, block_step}
 use Rattle.module_tree.specs.Parts.{block_walk}
+use Rattle.module_tree.specs.declared.source.ModuleNode.{ModuleNode}
 use Rattle.module_tree.specs.declared.source.Part.{Part}
 use Rattle.module_tree.specs.declared.source.Part.TheVariants as part
 use Rattle.module_tree.specs.Runs.{callee_of, callees_of, runs_of}
@@ -141,7 +141,7 @@ adds_deeper b inner deeper old new x = record {
 
 pub adds_run : (callee : NameAt ℕ) (bindings : List (Binding ℕ)) (old new : List ℕ)
     → new ≡ old ++ callee.name ∷ [] → AddsCallees (here (Call callee bindings)) old new
-adds_run callee bindings old new e = record { added = λ scope before. e; }
+adds_run callee bindings old new e = record { added = λ scope before. e }
 
 -- all elements of a list
 pub adds_all : {A : Type 0} (walk : A → Walk ℕ) (xs : List A) (i : ℕ) (old new : List ℕ) → length xs ≤ i
@@ -198,6 +198,11 @@ runs_joined [] t = refl
 runs_joined (part.Module m ∷ xs) t = ap (λ rs. callees_of m ∷ rs) (runs_joined xs t)
 runs_joined (part.Body b ∷ xs) t = runs_joined xs t
 runs_joined (part.Host h ∷ xs) t = runs_joined xs t
+
+pub module_added : (old new : List (List ℕ)) (m : ModuleNode ℕ) (ms : List ℕ) (t : Part ℕ) → t ≡ part.Module m
+    → ms ≡ callees_of m → new ≡ old ++ ms ∷ [] → new ≡ old ++ runs_of (t ∷ [])
+module_added old new m ms t is own pushed =
+    pushed ∙ ap (λ (ns : List ℕ). old ++ ns ∷ []) own ∙ ap (λ (u : Part ℕ). old ++ runs_of (u ∷ [])) (sym is)
 
 pub runs_more : (xs : List (Part ℕ)) (i : ℕ) (t : Part ℕ) (old new : List (List ℕ)) → i < length xs
     → t ≡ get_or xs i t → old ≡ runs_of (take i xs) → new ≡ old ++ runs_of (t ∷ [])

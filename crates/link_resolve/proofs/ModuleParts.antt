@@ -1,16 +1,14 @@
 -- The parts of a text, put together from what their pieces became.
-use Rattle.std.proofs.Common.{◌≡◌, ◌+◌, ◌<◌, ℕ, List, [], ◌∷◌, ◌++◌, length, map, take, get_or, refl, sym, ap, subst, ◌∙◌}
+use Rattle.std.proofs.Common.{◌≡◌, ◌+◌, ◌<◌, ℕ, List, [], ◌∷◌, ◌++◌, length, map, take, get_or, sym, ap, subst, ◌∙◌}
 use Rattle.std.proofs.lemmas.List.{map-append, take_more}
 use Rattle.host_expr.specs.declared.expr.Expr.{Expr}
-use Rattle.module_tree.specs.declared.source.ExprAt.{ExprAt}
 use Rattle.module_tree.specs.declared.source.InterfaceNode.{InterfaceNode}
 use Rattle.module_tree.specs.declared.source.ParameterNode.{ParameterNode}
 use Rattle.module_tree.specs.declared.source.ModuleNode.{ModuleNode}
 use Rattle.module_tree.specs.declared.source.BodyNode.{BodyNode}
 use Rattle.module_tree.specs.declared.source.BlockNode.{BlockNode}
-use Rattle.module_tree.specs.declared.source.Part.{Part}
 use Rattle.module_tree.specs.declared.source.Part.TheVariants as top
-use Rattle.module_tree.specs.Scopes.{InScope, Declared}
+use Rattle.module_tree.specs.Scopes.{Declared}
 use Rattle.link_faults.specs.Named.{Name, place_of}
 use Rattle.link_faults.specs.Rows.{Program}
 use Rattle.module_link.specs.declared.places.Places.{Places}

@@ -1,9 +1,9 @@
 -- The runs of a text without faults are those of its resolved tree, and none of them lies on a cycle.
 use Rattle.std.proofs.Common.{◌≡◌, ℕ, zero, suc, ◌+◌, ◌<◌, Bool, true, false, List, [], ◌∷◌, ◌++◌, map, length}
-use Rattle.std.proofs.Common.{Option, Some, None, option_map, refl, sym, ap, subst, ◌∙◌, arith}
-use Rattle.std.specs.Prelude.{◌==◌, ◌||◌, cond, slice_get}
+use Rattle.std.proofs.Common.{Option, Some, None, inl, inr, refl, sym, ap, ◌∙◌, arith}
+use Rattle.std.specs.Prelude.{◌==◌, cond, slice_get}
 use Rattle.std.specs.Str.{bytes_eq}
-use Rattle.std.specs.List.{AllByRecursion, Contains, flat_map, filter_map, list_any}
+use Rattle.std.specs.List.{AllByRecursion, Contains, cons_option, flat_map, filter_map}
 use Rattle.std.proofs.lemmas.Bool.{or_cases, eqb-true}
 use Rattle.std.proofs.lemmas.List.{length-map}
 use Rattle.std.proofs.lemmas.List.Elements.{filter_map-append}
@@ -14,7 +14,7 @@ use Rattle.module_tree.specs.Parts.{StatementPart, Test, Times, Emission, Locals
 use Rattle.module_tree.specs.Parts.{parts_of}
 use Rattle.module_tree.specs.Callables.{modules_of}
 use Rattle.module_tree.specs.Runs.{callee_of, callees_of, runs_of, or_none, is_among}
-use Rattle.run_graph.specs.Reach.{InRange, Runs, Reaches, callees}
+use Rattle.run_graph.specs.Reach.{InRange}
 use Rattle.run_graph.specs.Components.{HasNoCycle}
 use Rattle.link_faults.specs.declared.fault.LinkKind.TheVariants as fault
 use Rattle.link_faults.specs.Named.{Name, place_from}
@@ -110,13 +110,12 @@ meant_by parts (r ∷ rs) n e = by (meant_by parts rs n) (meant parts r) refl e
     by others None is e = later (others e)
     by others (Some k) is e = elim (or_cases (k == n) (is_among (filter_map (meant parts) rs) n) e) [
       | inl same ↦ record {
-          run = r;
-          written = (0, omega arith, refl);
-          means = is ∙ ap Some (eqb-true k n same);
-        }
+        run = r;
+        written = (0, omega arith, refl);
+        means = is ∙ ap Some (eqb-true k n same);
+      }
       | inr among ↦ later (others among)
     ]
-
 
 held_by : (parts : Program) (ms : List (ModuleNode Name)) (m n : ℕ)
     → is_among (or_none (slice_get (map (λ (m : ModuleNode Name). filter_map (meant parts) (runs_in m)) ms) m))

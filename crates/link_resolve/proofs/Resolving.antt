@@ -12,15 +12,15 @@ use Rattle.module_tree.specs.declared.source.Statement.TheVariants as variant
 use Rattle.module_tree.specs.declared.source.ExprAt.{ExprAt}
 use Rattle.module_tree.specs.declared.source.Statement.TheFolds.{fold-roll-Statement, map-Statement}
 use Rattle.module_tree.specs.declared.source.Statement.TheFolds.{fold_out-StatementNode, fold_out-BlockNode}
-use Rattle.module_tree.specs.Scopes.{Signal, TrapName, InScope, Declared, local_signals, with_signals, with_trap}
+use Rattle.module_tree.specs.Scopes.{InScope, Declared, local_signals, with_signals, with_trap}
 use Rattle.indexmap.specs.IndexMap.{get_by_text}
 use Rattle.link_faults.specs.Named.{Name}
 use Rattle.link_faults.specs.Rows.{Program}
-use Rattle.link_faults.specs.InnermostFirst.{in_scope, shown, declares, IsScope}
+use Rattle.link_faults.specs.InnermostFirst.{in_scope, shown, declares}
 use Rattle.module_link.specs.declared.places.Places.{Places}
 use Rattle.module_link.specs.Resolved as tree
 use Rattle.module_link.specs.Resolved.{Resolve, plainly, within, then, each, if_there, resolved, resolved_block}
-use Rattle.module_link.specs.Places.{ArePlaces, Shows, declared_before, shown_trap}
+use Rattle.module_link.specs.Places.{ArePlaces, Shows, declared_before}
 use Rattle.link_resolve.specs.Walking.{Resolves, resolved_statement, resolved_node, behind_signals, inside_trap}
 use Rattle.link_resolve.specs.Walking.{SameButSignals, SameButTraps}
 

@@ -1,7 +1,6 @@
 -- The modules that a piece of a text runs, once names are resolved. This project's own.
 use Rattle.std.specs.Prelude.{◌≡◌, ℕ, List, ◌++◌}
 use Rattle.std.specs.List.{flat_map}
-use Rattle.module_tree.specs.declared.source.BlockNode.{BlockNode}
 use Rattle.module_tree.specs.declared.source.StatementNode.{StatementNode}
 use Rattle.module_tree.specs.declared.source.Statement.{Statement}
 use Rattle.module_tree.specs.declared.source.Statement.TheFolds.{fold-Statement, fold-StatementNode}

@@ -34,10 +34,7 @@ fn add_of_otherwise(
 }
 
 #[cycle(callees)]
-fn add_of_statement(
-    callees: &mut Items<u32>,
-    statement: &Statement<u32>,
-) -> Result<(), NoMemory>
+fn add_of_statement(callees: &mut Items<u32>, statement: &Statement<u32>) -> Result<(), NoMemory>
     ensures { OnOk result (AddsCallees (statement_walk statement.now) callees.old callees.new) }
 {
     match statement {
@@ -101,11 +98,7 @@ fn callees_of(alloc: Global, node: &ModuleNode<u32>) -> Result<Items<u32>, NoMem
 }
 
 /// What a part of a text runs, if it is a module.
-fn add_runs(
-    alloc: Global,
-    runs: &mut Vec<Items<u32>>,
-    part: &Part<u32>,
-) -> Result<(), NoMemory>
+fn add_runs(alloc: Global, runs: &mut Vec<Items<u32>>, part: &Part<u32>) -> Result<(), NoMemory>
     ensures { OnOk result (runs.new.items ≡ runs.old.items ++ runs_of (part.now ∷ [])) }
 {
     match part {

@@ -60,11 +60,7 @@ fn resolve_body(alloc: Global, body: &BodyNode<Name>) -> Result<BodyNode<u32>, N
     })
 }
 
-fn resolve_part(
-    alloc: Global,
-    text: &Text<'_>,
-    part: &Part<Name>,
-) -> Result<Part<u32>, NoMemory>
+fn resolve_part(alloc: Global, text: &Text<'_>, part: &Part<Name>) -> Result<Part<u32>, NoMemory>
     requires { IsText text.now }
     ensures { IfOk result (λ p. p ≡ resolved_part text.now.parts.now part.now) }
 {

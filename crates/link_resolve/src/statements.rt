@@ -71,7 +71,11 @@ pub fn sustain(
     Ok(Statement::Sustain(places.signal_at(name), value))
 }
 
-pub fn awaits(alloc: Global, places: &Places, delay: &Delay<Name>) -> Result<Statement<u32>, NoMemory>
+pub fn awaits(
+    alloc: Global,
+    places: &Places,
+    delay: &Delay<Name>,
+) -> Result<Statement<u32>, NoMemory>
     requires { ArePlaces places.now }
     ensures { (c : InScope) → Shows places.now c
         → IfOk result (λ s. s ≡ v.Await (resolved_delay c delay.now)) }

@@ -1,14 +1,14 @@
-use Rattle.std.proofs.Common.{◌≡◌, ◌+◌, ℕ, List, map, length, refl, sym, subst, ◌∙◌, ap, arith, Option, Some, None}
+use Rattle.std.proofs.Common.{◌+◌, ℕ, List, map, length, refl, sym, subst, ◌∙◌, arith}
 use Rattle.std.specs.Prelude.{OnOk}
 use Rattle.module_tree.specs.declared.source.BlockNode.{BlockNode}
 use Rattle.module_tree.specs.declared.source.Statement.TheOpen as s
 use Rattle.module_tree.specs.declared.source.Statement.TheVariants as v
-use Rattle.module_tree.specs.Parts.{Test, Locals, empty, then, in_order, block_walk, locals_walk}
+use Rattle.module_tree.specs.Parts.{Test, Locals, in_order, block_walk, locals_walk}
 use Rattle.module_tree.specs.Scopes.{with_signals, with_trap}
 use Rattle.link_resolve.specs.CalleesAdded.{AddsCallees, node_walk}
-use Rattle.link_resolve.proofs.Adding.{adds_nothing, adds_then, adds_more, adds_by_step, adds_made, adds_leaf, lifted}
+use Rattle.link_resolve.proofs.Adding.{adds_more, adds_by_step, adds_leaf, lifted}
 use Rattle.link_resolve.proofs.Adding.{adds_delayed, adds_all, adds_node, adds_block, adds_missing, adds_there, adds_if}
-use Rattle.link_resolve.proofs.Adding.{adds_behind, adds_before, adds_deeper, adds_run, no_delay}
+use Rattle.link_resolve.proofs.Adding.{adds_behind, adds_before, adds_deeper, no_delay}
 use Rattle.link_resolve.proofs.callees.+callees.Goals as goal
 
 pub add_of_blocks-each_block-preserved : goal.add_of_blocks-each_block-preserved

@@ -1,4 +1,4 @@
-use Rattle.std.proofs.Common.{◌≡◌, ℕ, true, List, sym, ap, subst, ◌∙◌}
+use Rattle.std.proofs.Common.{◌≡◌, ℕ, List, sym, ap, subst, ◌∙◌}
 use Rattle.module_tree.specs.Runs.{runs_of, is_callees_first}
 use Rattle.run_graph.specs.Reach.{InRange}
 use Rattle.run_graph.specs.Components.{HasNoCycle}
@@ -13,7 +13,8 @@ returns c =
     let tree = c.args.parts.now in
     let same : c.as_slice.result.now ≡ runs_of tree = c.as_slice.ensures.value ∙ c.in_ok-runs.ensures in
     let order = c.in_ok-components.ensures.order (subst HasNoCycle (sym same) c.requires.no_cycle) in
-    let copied = c.in_ok-to_vec.ensures.items ∙ c.as_slice-2.ensures in
+    let copied : c.in_ok-to_vec.field-0.items ≡ c.in_ok-components.components.callees_first =
+    c.in_ok-to_vec.ensures.items_if_clones_equal (λ x y e. e) ∙ c.as_slice-2.ensures in
     ap (is_callees_first (runs_of tree)) copied
     ∙ ap (λ (rs : List (List ℕ)). is_callees_first rs c.in_ok-components.components.callees_first) (sym same)
     ∙ order

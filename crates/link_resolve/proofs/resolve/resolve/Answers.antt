@@ -1,8 +1,8 @@
-use Rattle.std.proofs.Common.{◌≡◌, ℕ, true, List, sym, ap, subst, ◌∙◌}
+use Rattle.std.proofs.Common.{ℕ, List, sym, ap, ◌∙◌}
 use Rattle.module_tree.specs.declared.source.Part.{Part}
 use Rattle.module_tree.specs.Runs.{runs_of, is_callees_first}
 use Rattle.module_link.specs.Resolved.{resolved_parts}
-use Rattle.link_resolve.proofs.Links.{tree_in_range, tree_has_no_cycle, tree_is_linked}
+use Rattle.link_resolve.proofs.LinkedTrees.{tree_in_range, tree_has_no_cycle, tree_is_linked}
 use Rattle.link_resolve.proofs.resolve.resolve.Goals as goal
 
 pub callees_first-requires-clause-in_range : goal.callees_first-requires-clause-in_range

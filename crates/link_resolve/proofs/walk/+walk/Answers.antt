@@ -4,7 +4,6 @@ use Rattle.module_tree.specs.declared.source.Binding.{Binding}
 use Rattle.module_tree.specs.declared.source.BlockNode.{BlockNode}
 use Rattle.module_tree.specs.declared.source.ExprAt.{ExprAt}
 use Rattle.module_tree.specs.declared.source.Delay.{Delay}
-use Rattle.module_tree.specs.declared.source.Later.{Later}
 use Rattle.module_tree.specs.declared.source.SignalNode.{SignalNode}
 use Rattle.module_tree.specs.declared.source.Statement.{Statement}
 use Rattle.module_tree.specs.declared.source.Statement.TheOpen as s
@@ -12,9 +11,9 @@ use Rattle.module_tree.specs.declared.source.Statement.TheVariants as v
 use Rattle.link_faults.specs.Named.{Name, module_named}
 use Rattle.link_faults.specs.Rows.{module_place}
 use Rattle.module_link.specs.Resolved.{resolved_block, resolved, resolved_name, resolved_delay, resolved_later}
-use Rattle.module_link.specs.Resolved.{resolved_bindings, resolved_async, each, if_there, within, in_signals, in_trap}
+use Rattle.module_link.specs.Resolved.{resolved_bindings, resolved_async, each, if_there, within, in_signals}
 use Rattle.module_link.specs.Resolved.{Resolve, signal_place, trap_place, or_first}
-use Rattle.link_resolve.specs.Walking.{Resolves, resolved_statement, resolved_node, behind_signals, inside_trap}
+use Rattle.link_resolve.specs.Walking.{Resolves, resolved_node}
 use Rattle.link_resolve.proofs.Resolving.{plainly_resolves, within_resolves, then_resolves, more_resolves}
 use Rattle.link_resolve.proofs.Resolving.{if_step, nothing_resolves, some_resolves, node_resolves, block_resolves, all_resolve}
 use Rattle.link_resolve.proofs.Resolving.{by_step, made_by_step, by_plain_step, signals_resolve, trap_resolves}
@@ -324,7 +323,6 @@ resolve_statement-returns-in-Async t c =
     let w = c.in-Async in
     by_plain_step parts (s.Async w.node) x c.starts.result p (λ scope. v.Async (resolved_async parts scope w.node))
     (v.rolls-Async w.node ∙ sym w.is) refl c.requires.places c.starts.ensures
-
 
 pub otherwise-returns-in-None : goal.otherwise-returns-in-None
 otherwise-returns-in-None t c = nothing_resolves c.args.text.now.parts.now c.args.block.now c.args.places.now

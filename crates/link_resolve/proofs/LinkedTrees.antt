@@ -1,4 +1,4 @@
--- A resolved text keeps what linked texts keep, and its runs go round in no circle.
+-- A resolved text keeps what linked texts keep, and no run of it lies on a cycle.
 use Rattle.std.proofs.Common.{◌≡◌, ℕ, true, List, sym, subst}
 use Rattle.module_tree.specs.declared.source.Part.{Part}
 use Rattle.module_tree.specs.Source.{is_source}
@@ -7,7 +7,7 @@ use Rattle.module_tree.specs.LinkedFacts.{IsLinked}
 use Rattle.module_tree.specs.Runs.{runs_of}
 use Rattle.run_graph.specs.Reach.{InRange}
 use Rattle.run_graph.specs.Components.{HasNoCycle}
-use Rattle.link_faults.specs.Rows.{Program, source_runs}
+use Rattle.link_faults.specs.Rows.{Program}
 use Rattle.link_faults.specs.FirstFault.{IsFaultless}
 use Rattle.module_link.specs.Resolved.{resolved_parts}
 use Rattle.module_link.proofs.Faultless.{text_is_fine}
