@@ -2,6 +2,8 @@
 #![tactic(auto)]
 
 mod callees;
+mod first_fault_stub;
+pub mod link;
 pub mod resolve;
 mod scopes;
 mod statements;
