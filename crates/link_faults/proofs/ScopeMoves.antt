@@ -40,7 +40,7 @@ now_shown pre [] place n e = refl
 now_shown pre (s ∷ signals) place n e =
     let whole = pre ++ local_meaning s ∷ map local_meaning signals in
     let here : slice_get whole place ≡ Some (local_meaning s) = ap (slice_get whole) e
-        ∙ at_seam pre (local_meaning s) (map local_meaning signals) in
+    ∙ at_seam pre (local_meaning s) (map local_meaning signals) in
     ap (λ m. record { name = s.name; meaning = m } ∷ map (shown_by whole)
     (map shown (local_signals (place + 1) signals))) here
     ∙ ap (λ xs. record { name = s.name; meaning = Some (local_meaning s) } ∷ xs)
