@@ -8,7 +8,7 @@ use Rattle.hh_base.specs.declared.value.Kind.TheVariants as kind
 use Rattle.host_expr.specs.declared.expr.Expr.{Expr, roll-Expr}
 use Rattle.host_expr.specs.declared.expr.ExprNode.{ExprNode, roll-ExprNode}
 use Rattle.host_expr.specs.declared.expr.ExprNode.TheOpen as layer
-use Rattle.host_expr.specs.declared.expr.ExprNode.TheFolds.{fold-Expr, fold-ExprNode, fold-roll-Expr}
+use Rattle.host_expr.specs.declared.expr.ExprNode.TheFolds.{fold-ExprNode, fold-roll-Expr}
 use Rattle.host_expr.specs.declared.expr.ExprNode.TheFolds.{fold-roll-ExprNode, ind-Expr, map-ExprNode}
 use Rattle.host_expr.specs.declared.expr.ExprNode.TheFolds.{map-Expr}
 use Rattle.host_expr.specs.Kinds.{status_kind, value_kind, only_int, only_bool, both_bool, arith_kind}

@@ -7,3 +7,4 @@ pub mod TextLaws
 pub mod RunLaws
 pub mod MeantLaws
 pub mod WalkLaws
+pub mod ScopeMoves

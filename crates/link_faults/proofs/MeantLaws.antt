@@ -1,10 +1,9 @@
 -- What names of modules, bodies and hosts mean by the tables of a text.
-use Rattle.std.proofs.Common.{◌≡◌, ℕ, Option, Some, None, List, [], ◌∷◌, map, refl, sym, ◌∙◌, ap, subst}
+use Rattle.std.proofs.Common.{◌≡◌, ℕ, Option, [], refl, sym, ◌∙◌, ap}
 use Rattle.std.specs.Prelude.{option_map}
 use Rattle.module_tree.specs.declared.source.ModuleNode.{ModuleNode}
 use Rattle.module_tree.specs.Callables.{Signature, modules_of, signatures_of}
 use Rattle.link_faults.specs.declared.text.Text.{Text}
-use Rattle.link_faults.specs.declared.text.Callable.{Callable}
 use Rattle.link_faults.specs.Named.{Name, place_of, module_named, signature_named}
 use Rattle.link_faults.specs.Rows.{module_place}
 use Rattle.link_faults.specs.NameTables.{place_in_table}

@@ -1,13 +1,11 @@
 -- Arguments, bindings and the signals of an interface, one more at a time.
-use Rattle.std.proofs.Common.{◌≡◌, ℕ, ◌+◌, ◌<◌, ◌≤◌, ◌||◌, Bool, true, false, not, cond, Option, Some, None, List, []}
-use Rattle.std.proofs.Common.{◌∷◌, ◌++◌, length, map, take, drop, get_or, refl, sym, ◌∙◌, ap, subst, arith, append_assoc, zero, suc}
+use Rattle.std.proofs.Common.{◌≡◌, ℕ, ◌+◌, ◌<◌, ◌||◌, Bool, true, false, not, cond, Option, Some, None, List, []}
+use Rattle.std.proofs.Common.{◌∷◌, ◌++◌, length, map, drop, get_or, refl, sym, ◌∙◌, ap, arith, append_assoc, zero, suc}
 use Rattle.std.proofs.Common.{length-append, drop-cons, add-one}
-use Rattle.std.specs.Prelude.{option_map, slice_get, filter, is_some}
+use Rattle.std.specs.Prelude.{option_map, slice_get, filter}
 use Rattle.std.specs.List.{find}
 use Rattle.std.specs.Str.{bytes_eq}
-use Rattle.std.proofs.lemmas.List.{map-append}
 use Rattle.std.proofs.lemmas.List.Elements.{filter-append}
-use Rattle.std.proofs.lemmas.Option.{slice_get-get_or}
 use Rattle.std.proofs.lemmas.Slice.Eq.{bytes_eq-Decides}
 use Rattle.hh_base.specs.declared.value.Pos.{Pos}
 use Rattle.hh_base.specs.declared.value.Kind.{Kind}
@@ -18,18 +16,16 @@ use Rattle.module_tree.specs.declared.source.InterfaceNode.{InterfaceNode}
 use Rattle.module_tree.specs.Scopes.{Signal, interface_from, interface_signals}
 use Rattle.link_faults.specs.declared.fault.LinkKind.{LinkKind}
 use Rattle.link_faults.specs.declared.fault.LinkFault.{LinkFault}
-use Rattle.link_faults.specs.declared.names.Meaning.{Meaning}
 use Rattle.link_faults.specs.declared.table.Table.{Table}
 use Rattle.link_faults.specs.Faults.{earlier}
 use Rattle.link_faults.specs.Earliest.{first_by}
 use Rattle.link_faults.specs.Named.{Name, place_from, place_of, is_named, first_ones, interface_named}
 use Rattle.link_faults.specs.SourceKinds.{Kinds}
 use Rattle.link_faults.specs.Meanings.{meaning, node_meaning}
-use Rattle.link_faults.specs.NameTables.{IsTable, place_in_table, has_name, name_of, interface_name}
+use Rattle.link_faults.specs.NameTables.{IsTable, place_in_table, name_of, interface_name}
 use Rattle.link_faults.specs.PartFaults.{Meanings}
 use Rattle.link_faults.specs.RunFaults.{first_arguments, first_implied, first_unbound, is_unbound, left_name}
 use Rattle.link_faults.proofs.EarlierLaws.{earlier_none, earlier_grouped, first_by_joined}
-use Rattle.link_faults.proofs.TableLaws.{placed_if_named}
 
 -- ---- arguments
 
@@ -53,7 +49,7 @@ abbrev pub item_at : {A : Type 0} → List A → Option ℕ → Option A
 item_at xs None = None
 item_at xs (Some p) = slice_get xs p
 
-at_seam : {A : Type 0} (pre : List A) (x : A) (rest : List A)
+pub at_seam : {A : Type 0} (pre : List A) (x : A) (rest : List A)
     → slice_get (pre ++ x ∷ rest) (length pre) ≡ Some x
 at_seam [] x rest = refl
 at_seam (y ∷ pre) x rest = at_seam pre x rest

@@ -1,13 +1,11 @@
 -- One name more in a table of the names of a list.
 use Rattle.std.proofs.Common.{◌≡◌, ℕ, ◌+◌, ◌||◌, Bool, true, false, cond, Option, Some, None, List, [], ◌∷◌}
-use Rattle.std.proofs.Common.{◌++◌, length, map, refl, sym, ◌∙◌, ap, subst, arith}
+use Rattle.std.proofs.Common.{◌++◌, length, map, refl, sym, ◌∙◌, ap, arith}
 use Rattle.std.specs.Prelude.{is_some}
-use Rattle.std.specs.List.{list_any}
 use Rattle.std.specs.Str.{bytes_eq}
 use Rattle.std.proofs.Common.{append_assoc}
 use Rattle.std.proofs.lemmas.Slice.Eq.{bytes_eq-Decides}
 use Rattle.std.proofs.lemmas.List.{length-map, map-append}
-use Rattle.hh_base.specs.declared.value.Pos.{Pos}
 use Rattle.module_tree.specs.declared.source.NameAt.{NameAt}
 use Rattle.link_faults.specs.declared.fault.LinkKind.{LinkKind}
 use Rattle.link_faults.specs.declared.table.Table.{Table}

@@ -1,10 +1,9 @@
 -- The modules, bodies and hosts of a text that is one declaration longer.
 use Rattle.std.proofs.Common.{◌≡◌, ℕ, ◌+◌, ◌<◌, List, [], ◌∷◌, ◌++◌, length, map, take, get_or, refl, sym, ◌∙◌, ap, subst}
 use Rattle.std.proofs.lemmas.List.{take_more}
-use Rattle.module_tree.specs.declared.source.ModuleNode.{ModuleNode}
 use Rattle.module_tree.specs.declared.source.Part.{Part}
 use Rattle.module_tree.specs.declared.source.Part.TheVariants as top
-use Rattle.module_tree.specs.Callables.{Signature, modules_of, signatures_of}
+use Rattle.module_tree.specs.Callables.{modules_of, signatures_of}
 use Rattle.link_faults.specs.Named.{Name}
 use Rattle.link_faults.specs.Rows.{Program}
 

@@ -2,7 +2,6 @@
 -- This project's own.
 use Rattle.std.specs.Prelude.{ℕ, Option, Some, None, option_map, slice_get}
 use Rattle.indexmap.specs.IndexMap.{get_by_text}
-use Rattle.hh_base.specs.declared.value.Kind.{Kind}
 use Rattle.module_tree.specs.declared.source.InterfaceNode.{InterfaceNode}
 use Rattle.module_tree.specs.Scopes.{Signal, InScope}
 use Rattle.link_faults.specs.declared.names.Meaning.{Meaning}

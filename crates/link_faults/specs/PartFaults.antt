@@ -1,14 +1,12 @@
 -- The first fault of each part of a text, given what names mean there. This project's own.
-use Rattle.std.specs.Prelude.{Bool, true, false, not, cond, Option, Some, None, is_some, option_map, List, [], ◌∷◌}
-use Rattle.hh_base.specs.declared.value.Pos.{Pos}
+use Rattle.std.specs.Prelude.{Option, Some, None, option_map, List}
 use Rattle.hh_base.specs.declared.value.Kind.{Kind}
 use Rattle.hh_base.specs.declared.value.Kind.TheVariants as kind
 use Rattle.module_tree.specs.declared.source.NameAt.{NameAt}
 use Rattle.module_tree.specs.declared.source.ExprAt.{ExprAt}
 use Rattle.module_tree.specs.declared.source.SignalNode.{SignalNode}
-use Rattle.module_tree.specs.declared.source.AsyncNode.{AsyncNode}
 use Rattle.module_tree.specs.Parts.{signals_read, parameters_read}
-use Rattle.module_tree.specs.LinkedFacts.{is_kind, is_input}
+use Rattle.module_tree.specs.LinkedFacts.{is_input}
 use Rattle.link_faults.specs.declared.fault.LinkKind.TheVariants as fault
 use Rattle.link_faults.specs.declared.fault.LinkFault.{LinkFault}
 use Rattle.link_faults.specs.declared.names.Meaning.{Meaning}
@@ -17,7 +15,7 @@ use Rattle.link_faults.specs.Earliest.{first_at, first_by}
 use Rattle.link_faults.specs.Named.{Name}
 use Rattle.link_faults.specs.SourceKinds.{Kinds, misfits_in, wrong_for, wrong_value}
 use Rattle.link_faults.specs.Rows.{here_if, wrong_signal}
-use Rattle.link_faults.specs.Judgements.{first_unknown, unknown_at}
+use Rattle.link_faults.specs.Judgements.{first_unknown}
 
 -- ---- expressions
 

@@ -1,5 +1,5 @@
 -- The first fault of an `async` and of a `run`, given what names mean there. This project's own.
-use Rattle.std.specs.Prelude.{◌==◌, ◌&&◌, ◌||◌, Bool, true, false, not, Option, Some, None, is_none, option_map, List}
+use Rattle.std.specs.Prelude.{◌==◌, ◌&&◌, ◌||◌, Bool, false, not, Option, Some, None, is_none, option_map, List}
 use Rattle.std.specs.Prelude.{[], ◌∷◌, map, filter, length}
 use Rattle.hh_base.specs.declared.value.Pos.{Pos}
 use Rattle.hh_base.specs.declared.value.Kind.{Kind}

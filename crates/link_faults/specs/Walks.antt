@@ -6,13 +6,17 @@ use Rattle.std.specs.List.{flat_map}
 use Rattle.hh_base.specs.declared.value.Kind.TheVariants as kind
 use Rattle.module_tree.specs.declared.source.NameAt.{NameAt}
 use Rattle.module_tree.specs.declared.source.ModuleNode.{ModuleNode}
+use Rattle.hh_base.specs.declared.value.Dir.TheVariants as dir
+use Rattle.module_tree.specs.declared.source.SignalNode.{SignalNode}
+use Rattle.module_tree.specs.declared.source.Statement.{Statement}
+use Rattle.module_tree.specs.declared.source.StatementNode.{StatementNode}
+use Rattle.module_tree.specs.declared.source.Statement.TheFolds.{fold-Statement, fold-StatementNode}
 use Rattle.module_tree.specs.Scopes.{Signal, TrapName, InScope, Declared}
 use Rattle.module_tree.specs.Parts.{StatementPart, Test, Times, Emission, Locals, Exit, Call, Start, Placed}
-use Rattle.module_tree.specs.Parts.{Walk, Walked}
+use Rattle.module_tree.specs.Parts.{Walk, statement_step, block_step}
 use Rattle.link_faults.specs.declared.fault.LinkKind.TheVariants as fault
 use Rattle.link_faults.specs.declared.fault.LinkFault.{LinkFault}
 use Rattle.link_faults.specs.declared.names.Meaning.{Meaning}
-use Rattle.link_faults.specs.declared.names.Names.{Names}
 use Rattle.link_faults.specs.declared.walk.RunAt.{RunAt}
 use Rattle.link_faults.specs.declared.walk.Walker.{Walker}
 use Rattle.link_faults.specs.Faults.{earlier}
@@ -81,6 +85,11 @@ pub record Stands (scope : InScope) (w : Walker) : Type 0 where
   pub named : map (λ (n : Named). n.name) (in_scope w.traps) ≡ map (λ (t : TrapName). t.name) scope.traps
   pub bodiless : kind_of_parameter w.names ≡ no_kinds
 
+-- its tables find the innermost declarations
+pub record IsReady (w : Walker) : Type 0 where
+  pub signals : IsScope w.names.signals
+  pub traps : IsScope w.traps
+
 -- it has gone over these parts
 pub record Passes (parts : Program) (scope : InScope) (passed : List (Placed Name)) (old new : Walker) : Type
     0 where
@@ -90,5 +99,24 @@ pub record Passes (parts : Program) (scope : InScope) (passed : List (Placed Nam
 
 -- it has gone over this piece of a module, whatever is in scope and declared before
 pub record Follows (parts : Program) (piece : Walk Name) (old new : Walker) : Type 0 where
+  pub ready : IsReady old → IsReady new
   pub passes : (scope : InScope) (before : Declared) → Stands scope old
       → Passes parts scope (piece scope before).parts old new
+
+-- it has only moved to where this is in scope
+pub record Moves (scope : InScope) (old new : Walker) : Type 0 where
+  pub stands : Stands scope new
+  pub first : new.first ≡ old.first
+  pub runs : new.runs ≡ old.runs
+
+abbrev pub statement_walk : Statement Name → Walk Name
+statement_walk = fold-Statement Name (Walk Name) (Walk Name) (Walk Name) statement_step block_step
+    (λ n. n.what)
+
+abbrev pub node_walk : StatementNode Name → Walk Name
+node_walk = fold-StatementNode Name (Walk Name) (Walk Name) (Walk Name) statement_step block_step
+    (λ n. n.what)
+
+-- the meaning of a signal that is declared in a block
+abbrev pub local_meaning : SignalNode → Meaning
+local_meaning s = record { kind = s.kind; dir = dir.Local }

@@ -1,13 +1,16 @@
 //! Going over the parts of a module.
 
-ghost use Rattle.std.specs.Prelude.{◌≡◌, OnOk, is_some};
+ghost use Rattle.std.specs.Prelude.{◌≡◌, ℕ, ◌+◌, ◌≤◌, ◌^◌, ◌++◌, List, length, map, OnOk, IfOk, is_some};
+ghost use Rattle.module_tree.specs.declared.source.SignalNode.{SignalNode as ASignalNode};
+ghost use Rattle.module_tree.specs.Scopes.{InScope, with_signals, with_trap};
+ghost use Rattle.link_faults.specs.Named.{Name as AName};
 ghost use Rattle.indexmap.specs.IndexMap.{get_by_text};
 ghost use Rattle.module_tree.specs.Parts.{Test, Emission, Locals, Exit, Call, Start, here};
 ghost use Rattle.link_faults.specs.TextTables.{IsText};
-ghost use Rattle.link_faults.specs.Walks.{Follows};
+ghost use Rattle.link_faults.specs.Walks.{Follows, IsReady, Moves, Stands, local_meaning};
 
 use crate::fault::{LinkFault, LinkKind, earlier};
-use crate::names::Names;
+use crate::names::{Meaning, Names};
 use crate::parts::{fault_if, first_emission, first_expected, first_wrong};
 use crate::runs::{first_call, first_start};
 use crate::scope::Scope;
@@ -15,10 +18,13 @@ use crate::table::table_of;
 use crate::text::{Text, callable_of, interface_of};
 use hh_base::memory::NoMemory;
 use hh_base::name::Name;
-use hh_base::value::{Kind, Pos};
+use hh_base::value::{Dir, Kind, Pos};
 use module_tree::source::{AsyncNode, Binding, ExprAt, NameAt, SignalNode};
 use sqlite_items::Items;
 use std::alloc::Global;
+
+/// More signals than this in a module are too many for memory.
+const SIGNAL_LIMIT: usize = 2_147_483_648;
 
 /// A run of a module that is there, by the module's place.
 #[derive(Clone, Copy, Drop)]
@@ -43,28 +49,28 @@ impl Walker {
         self.traps.places.get(name.as_str()).is_some()
     }
 
-    fn test(&mut self, text: &Text<'_>, x: &ExprAt<Name>)
+    pub fn test(&mut self, text: &Text<'_>, x: &ExprAt<Name>)
         ensures { Follows text.now.parts.now (here (Test x.now)) self.old self.new }
     {
         let found = first_expected(&self.names, Kind::Bool, x);
         self.first = earlier(self.first, found);
     }
 
-    fn emission(&mut self, text: &Text<'_>, signal: &NameAt<Name>, value: &Option<ExprAt<Name>>)
+    pub fn emission(&mut self, text: &Text<'_>, signal: &NameAt<Name>, value: &Option<ExprAt<Name>>)
         ensures { Follows text.now.parts.now (here (Emission signal.now value.now)) self.old self.new }
     {
         let found = first_emission(&self.names, signal, value);
         self.first = earlier(self.first, found);
     }
 
-    fn exit(&mut self, text: &Text<'_>, trap: &NameAt<Name>)
+    pub fn exit(&mut self, text: &Text<'_>, trap: &NameAt<Name>)
         ensures { Follows text.now.parts.now (here (Exit trap.now)) self.old self.new }
     {
         let found = fault_if(!self.has_trap(&trap.name), trap.pos, LinkKind::UnknownTrap);
         self.first = earlier(self.first, found);
     }
 
-    fn start(&mut self, text: &Text<'_>, node: &AsyncNode<Name>)
+    pub fn start(&mut self, text: &Text<'_>, node: &AsyncNode<Name>)
         requires { IsText text.now }
         ensures { Follows text.now.parts.now (here (Start node.now)) self.old self.new }
     {
@@ -73,7 +79,7 @@ impl Walker {
     }
 
     /// Of a `signal` list, outside of its block.
-    fn locals(
+    pub fn locals(
         &mut self,
         alloc: Global,
         text: &Text<'_>,
@@ -87,7 +93,7 @@ impl Walker {
         Ok(())
     }
 
-    fn call(
+    pub fn call(
         &mut self,
         alloc: Global,
         text: &Text<'_>,
@@ -112,4 +118,73 @@ impl Walker {
             }
         }
     }
+
+    /// The place of the next signal of the module, of so many.
+    fn next_place(&self, count: usize) -> Result<u32, NoMemory>
+        ensures { IfOk result (λ n. (n ≡ length self.now.names.meanings) × (n + count ≤ 2 ^ 32)) }
+    {
+        let place = self.names.meanings.len();
+        if place > SIGNAL_LIMIT || count > SIGNAL_LIMIT {
+            return Err(NoMemory);
+        }
+        Ok(place as u32)
+    }
+
+    /// The signals of a list come into scope.
+    pub fn enter_signals(&mut self, alloc: Global, signals: &[SignalNode]) -> Result<(), NoMemory>
+        requires { IsReady self.old }
+        ensures ready { OnOk result (IsReady self.new) }
+        ensures moves { (scope : InScope) (n : ℕ) → Stands scope self.old → OnOk result (Moves (with_signals n
+            signals.now scope) self.old self.new) }
+    {
+        let place = self.next_place(signals.len())?;
+        self.names.signals.enter_signals(alloc, signals, place)?;
+        add_meanings(&mut self.names.meanings, signals)?;
+        Ok(())
+    }
+
+    /// The signals of a list that came into scope last leave it.
+    pub fn leave_signals(&mut self, count: usize) -> Result<(), NoMemory>
+        requires { IsReady self.old }
+        ensures ready { OnOk result (IsReady self.new) }
+        ensures moves { (scope : InScope) (n : ℕ) (signals : List ASignalNode) → count ≡ length signals
+            → Stands (with_signals n signals scope) self.old → OnOk result (Moves scope self.old self.new) }
+    {
+        self.names.signals.leave_all(count)?;
+        Ok(())
+    }
+
+    /// A trap comes into scope.
+    pub fn enter_trap(&mut self, alloc: Global, name: &Name) -> Result<(), NoMemory>
+        requires { IsReady self.old }
+        ensures ready { OnOk result (IsReady self.new) }
+        ensures moves { (scope : InScope) (n : ℕ) → Stands scope self.old → OnOk result (Moves (with_trap n
+            name.now scope) self.old self.new) }
+    {
+        self.traps.enter(alloc, name.as_str(), 0)?;
+        Ok(())
+    }
+
+    /// The trap that came into scope last leaves it.
+    pub fn leave_trap(&mut self) -> Result<(), NoMemory>
+        requires { IsReady self.old }
+        ensures ready { OnOk result (IsReady self.new) }
+        ensures moves { (scope : InScope) (n : ℕ) (name : AName) → Stands (with_trap n name scope) self.old
+            → OnOk result (Moves scope self.old self.new) }
+    {
+        self.traps.leave()?;
+        Ok(())
+    }
+}
+
+fn add_meanings(meanings: &mut Items<Meaning>, signals: &[SignalNode]) -> Result<(), NoMemory>
+    ensures { OnOk result (meanings.new ≡ meanings.old ++ map local_meaning signals.now) }
+{
+    'signals: for signal in signals {
+        meanings.push(Meaning {
+            kind: signal.kind,
+            dir: Dir::Local,
+        })?;
+    }
+    Ok(())
 }

@@ -2,7 +2,6 @@
 #![tactic(auto)]
 
 mod callees;
-mod first_fault_stub;
 pub mod link;
 pub mod resolve;
 mod scopes;

@@ -4,10 +4,10 @@ ghost use Rattle.std.specs.Prelude.{◌≡◌};
 ghost use Rattle.link_resolve.specs.declared.link.LinkError.TheVariants.{NoMemory as OutOfMemory};
 ghost use Rattle.link_resolve.specs.LinkedTexts.{IsLinkOf};
 
-use crate::first_fault_stub::first_fault;
 use crate::resolve::resolve;
 use hh_base::memory::NoMemory;
 use link_faults::fault::LinkFault;
+use link_verdict::first::first_fault;
 use module_tree::linked::Linked;
 use module_tree::source::Modules;
 use std::alloc::Global;
@@ -36,7 +36,8 @@ impl From<NoMemory> for LinkError {
 pub fn link(alloc: Global, modules: &Modules) -> Result<Linked, LinkError>
     ensures { IsLinkOf modules.now result }
 {
-    match first_fault(alloc, modules)? {
+    let first = first_fault(alloc, modules)?;
+    match first {
         Some(fault) => Err(LinkError::Fault(fault)),
         None => Ok(resolve(alloc, modules)?),
     }

@@ -1,5 +1,4 @@
 use Rattle.std.proofs.Common.{subst, sym}
-use Rattle.link_faults.specs.declared.judge.Judgement.{Judgement}
 use Rattle.link_faults.specs.Meanings.{kind_of_signal, kind_of_parameter}
 use Rattle.link_faults.specs.Judgements.{IsJudgement}
 use Rattle.link_faults.proofs.JudgementLaws.{is_judged}

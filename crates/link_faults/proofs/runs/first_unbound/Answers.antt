@@ -1,10 +1,8 @@
-use Rattle.std.proofs.Common.{◌≡◌, ◌+◌, ◌||◌, cond, None, List, [], ◌∷◌, ◌++◌, length, map, take, ◌∙◌, ap, sym, subst}
-use Rattle.std.specs.Prelude.{is_some}
+use Rattle.std.proofs.Common.{◌≡◌, ◌||◌, cond, None, [], ◌∷◌, length, map, take, ◌∙◌, ap, sym, subst}
 use Rattle.std.proofs.lemmas.List.{length-map, length-take-le, map-append}
-use Rattle.module_tree.specs.declared.source.InterfaceNode.{InterfaceNode}
 use Rattle.link_faults.specs.declared.fault.LinkKind.TheVariants as fault
 use Rattle.link_faults.specs.Faults.{earlier}
-use Rattle.link_faults.specs.Named.{place_of, is_named}
+use Rattle.link_faults.specs.Named.{is_named}
 use Rattle.link_faults.specs.Meanings.{meaning_of, node_meaning}
 use Rattle.link_faults.specs.NameTables.{IsTable, has_name, name_of, interface_name}
 use Rattle.link_faults.specs.RunFaults.{first_implied, first_unbound, left_name}

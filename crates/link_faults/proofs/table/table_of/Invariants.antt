@@ -1,4 +1,4 @@
-use Rattle.std.proofs.Common.{◌≡◌, map, take}
+use Rattle.std.proofs.Common.{map, take}
 use Rattle.link_faults.specs.NameTables.{IsTable}
 use Rattle.link_faults.proofs.table.table_of.Given as goal
 

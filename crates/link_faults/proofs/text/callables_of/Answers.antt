@@ -1,4 +1,4 @@
-use Rattle.std.proofs.Common.{[], ◌∷◌, ◌++◌, sym, ap, subst, take}
+use Rattle.std.proofs.Common.{[], ◌∷◌, sym, subst, take}
 use Rattle.module_tree.specs.Callables.{signatures_of}
 use Rattle.link_faults.specs.Rows.{Program}
 use Rattle.link_faults.specs.CallableTables.{AreCallables}

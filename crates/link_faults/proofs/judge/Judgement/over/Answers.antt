@@ -1,6 +1,5 @@
 use Rattle.std.proofs.Common.{None, ◌∙◌, ap, sym}
 use Rattle.link_faults.specs.declared.judge.Judgement.{Judgement}
-use Rattle.link_faults.specs.declared.fault.LinkFault.{LinkFault}
 use Rattle.link_faults.specs.Faults.{earlier}
 use Rattle.std.proofs.Common.{get_or}
 use Rattle.link_faults.proofs.EarlierLaws.{first_by_more}

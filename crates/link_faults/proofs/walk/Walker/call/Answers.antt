@@ -1,4 +1,4 @@
-use Rattle.std.proofs.Common.{◌≡◌, Some, None, [], ◌∷◌, ◌++◌, refl, sym, ◌∙◌, ap}
+use Rattle.std.proofs.Common.{◌≡◌, Some, None, [], ◌++◌, refl, sym, ◌∙◌, ap}
 use Rattle.std.specs.Prelude.{option_map}
 use Rattle.std.proofs.lemmas.List.{append-nil}
 use Rattle.module_tree.specs.declared.source.ModuleNode.{ModuleNode}
@@ -8,7 +8,7 @@ use Rattle.link_faults.specs.Named.{Name, module_named}
 use Rattle.link_faults.specs.Rows.{module_place}
 use Rattle.link_faults.specs.Meanings.{meaning_of}
 use Rattle.link_faults.specs.RunFaults.{first_call}
-use Rattle.link_faults.specs.Walks.{run_to, cons_run}
+use Rattle.link_faults.specs.Walks.{cons_run}
 use Rattle.link_faults.proofs.MeantLaws.{module_placed}
 use Rattle.link_faults.proofs.WalkLaws.{follows_here, found_where}
 use Rattle.link_faults.proofs.walk.Walker.call.Goals as goal

@@ -1,6 +1,5 @@
 use Rattle.std.proofs.Common.{refl, sym, ◌∙◌, ap}
 use Rattle.std.specs.Prelude.{option_map}
-use Rattle.std.specs.Option.{option_copied}
 use Rattle.std.proofs.lemmas.List.{append-nil}
 use Rattle.module_tree.specs.Parts.{Start}
 use Rattle.link_faults.specs.Faults.{earlier}
