@@ -6,7 +6,7 @@ use Rattle.std.specs.Option.{option_copied}
 use Rattle.std.specs.List.{find}
 use Rattle.std.specs.Str.{bytes_eq}
 use Rattle.link_faults.specs.Named.{Name, place_from, place_of}
-use Rattle.module_link.proofs.Distinct.{AtPlace, place_found}
+use Rattle.module_link.proofs.Distinct.{place_found}
 use Rattle.module_link.proofs.Lists.{get_of_map}
 
 abbrev pub standing : {A : Type 0} → List A → Option ℕ → Option A

@@ -1,7 +1,6 @@
 -- The bindings of a run, one signal of the interface more.
-use Rattle.std.proofs.Common.{◌≡◌, ◌+◌, ◌<◌, ℕ, suc, List, [], ◌∷◌, ◌++◌, length, map, take, get_or, refl, sym, ap}
-use Rattle.std.proofs.Common.{◌∙◌, arith, Option, Some, None, Bor}
-use Rattle.std.specs.Prelude.{slice_get}
+use Rattle.std.proofs.Common.{◌≡◌, ◌+◌, ◌<◌, ℕ, suc, List, [], ◌∷◌, ◌++◌, length, map, take, get_or, sym, ap}
+use Rattle.std.proofs.Common.{◌∙◌, arith}
 use Rattle.std.proofs.lemmas.List.{take_more, map_push, length-take-le}
 use Rattle.module_tree.specs.declared.source.InterfaceNode.{InterfaceNode}
 use Rattle.module_tree.specs.Scopes.{Signal, interface_from, interface_signals}

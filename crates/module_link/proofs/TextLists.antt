@@ -1,7 +1,7 @@
 -- The modules and signatures of a text, one declaration more.
 use Rattle.std.proofs.Common.{◌≡◌, ◌+◌, ◌<◌, List, [], ◌∷◌, ◌++◌, length, map, take, get_or, Bor, ℕ, refl, sym, ap}
 use Rattle.std.proofs.Common.{◌∙◌, append-nil}
-use Rattle.std.proofs.lemmas.List.{take_more, map_push, map-append}
+use Rattle.std.proofs.lemmas.List.{take_more, map_push}
 use Rattle.module_tree.specs.declared.source.ModuleNode.{ModuleNode}
 use Rattle.module_tree.specs.declared.source.Part.{Part}
 use Rattle.module_tree.specs.declared.source.Part.TheVariants as part

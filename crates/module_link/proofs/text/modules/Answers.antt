@@ -1,4 +1,4 @@
-use Rattle.std.proofs.Common.{ℕ, take, arith, Bor, Vec, Global, ap, ◌∙◌, List, [], ◌∷◌}
+use Rattle.std.proofs.Common.{take, arith, Bor, Vec, Global, ap, ◌∙◌, [], ◌∷◌}
 use Rattle.module_tree.specs.declared.source.ModuleNode.{ModuleNode}
 use Rattle.module_tree.specs.declared.source.Part.{Part}
 use Rattle.module_tree.specs.Callables.{modules_of}

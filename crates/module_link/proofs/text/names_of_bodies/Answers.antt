@@ -1,4 +1,4 @@
-use Rattle.std.proofs.Common.{ℕ, take, arith, Bor, Vec, Global, ap, ◌∙◌, List, [], ◌∷◌}
+use Rattle.std.proofs.Common.{take, arith, Bor, Vec, Global, ap, ◌∙◌, [], ◌∷◌}
 use Rattle.module_tree.specs.declared.source.Part.{Part}
 use Rattle.link_faults.specs.Named.{Name}
 use Rattle.module_link.proofs.TextLists.{names_of, names_more, pushed, kept}

@@ -1,4 +1,4 @@
-use Rattle.std.proofs.Common.{◌≡◌, ℕ, Some, None, Option, Bor, sym, ap, ◌∙◌}
+use Rattle.std.proofs.Common.{Option, Bor, sym, ap, ◌∙◌}
 use Rattle.std.specs.Option.{option_copied}
 use Rattle.module_tree.specs.declared.source.Binding.{Binding}
 use Rattle.link_faults.specs.Named.{Name}

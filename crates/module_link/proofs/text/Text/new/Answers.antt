@@ -1,4 +1,4 @@
-use Rattle.std.proofs.Common.{◌≡◌, ℕ, List, map, Bor, sym, ap, ◌∙◌}
+use Rattle.std.proofs.Common.{◌≡◌, map, Bor, ap, ◌∙◌}
 use Rattle.module_tree.specs.declared.source.ModuleNode.{ModuleNode}
 use Rattle.module_tree.specs.Callables.{Signature, modules_of, signatures_of}
 use Rattle.link_faults.specs.Named.{Name, place_of}
