@@ -1,8 +1,6 @@
 -- Tables of the first places of names, one name more.
 use Rattle.std.proofs.Common.{◌≡◌, ℕ, ◌+◌, suc, Bool, true, false, cond, List, [], ◌∷◌, ◌++◌, map, length, take}
-use Rattle.std.proofs.Common.{Option, Some, None, refl, sym, ap, subst, ◌∙◌, arith, Bor, get_or, ◌<◌}
-use Rattle.std.specs.Prelude.{is_some, is_none, slice_get}
-use Rattle.std.specs.List.{find}
+use Rattle.std.proofs.Common.{Option, Some, None, refl, sym, ap, ◌∙◌, arith, Bor, get_or, ◌<◌}
 use Rattle.std.specs.Str.{bytes_eq}
 use Rattle.std.proofs.lemmas.List.{take_more, map-append}
 use Rattle.link_faults.specs.Named.{Name, place_from, place_of}

@@ -9,6 +9,9 @@ pub mod SameDeclarations
 pub mod NamesByPosition
 pub mod Meanings
 pub mod ShownPlaces
+pub mod NamedPlaces
+pub mod TextLists
+pub mod RunBindings
 pub mod Distinct
 pub mod Bound
 pub mod PartExpressions

@@ -1,12 +1,12 @@
 -- Tables that show a scope give the places that names have in it.
-use Rattle.std.proofs.Common.{◌≡◌, ℕ, Bool, true, false, cond, List, [], ◌∷◌, map, Option, Some, None, option_map}
-use Rattle.std.proofs.Common.{refl, sym, ap, subst, ◌∙◌}
+use Rattle.std.proofs.Common.{◌≡◌, Bool, true, false, cond, List, [], ◌∷◌, map, Some, option_map}
+use Rattle.std.proofs.Common.{refl, ap, ◌∙◌}
 use Rattle.std.specs.List.{find}
 use Rattle.std.specs.Str.{bytes_eq}
 use Rattle.host_expr.specs.declared.expr.Expr.{Expr}
-use Rattle.module_tree.specs.Scopes.{Signal, TrapName, InScope}
-use Rattle.link_faults.specs.Named.{Name, signal_named}
-use Rattle.link_faults.specs.InnermostFirst.{in_scope, place_in, shown}
+use Rattle.module_tree.specs.Scopes.{TrapName, InScope}
+use Rattle.link_faults.specs.Named.{Name}
+use Rattle.link_faults.specs.InnermostFirst.{place_in}
 use Rattle.link_faults.proofs.ScopeLemmas.{found_signal}
 use Rattle.module_link.specs.declared.places.Places.{Places}
 use Rattle.module_link.specs.Resolved.{or_first, signal_place, trap_place, resolved_expr}

@@ -1,5 +1,5 @@
 -- The places that a walk over a text gives to names: those of its tables. This project's own.
-use Rattle.std.specs.Prelude.{◌≡◌, ℕ, Option, Some, None, option_map, List, map}
+use Rattle.std.specs.Prelude.{◌≡◌, ℕ, None, map}
 use Rattle.indexmap.specs.IndexMap.{get_by_text}
 use Rattle.module_tree.specs.Scopes.{TrapName, InScope, Declared}
 use Rattle.link_faults.specs.Named.{Name}

@@ -1,8 +1,10 @@
 //! A text without faults of names, kinds and runs, with each name replaced by the place of what it means.
 #![tactic(auto)]
 
-mod copies;
-mod expressions;
-mod leaves;
-mod places;
-mod tables;
+pub mod copies;
+pub mod expressions;
+pub mod leaves;
+pub mod places;
+pub mod runs;
+pub mod tables;
+pub mod text;

@@ -11,7 +11,7 @@ use indexmap::IndexMap;
 use std::alloc::Global;
 
 /// More names than this have no places.
-const MOST_NAMES: usize = 1 << 32;
+pub const MOST_NAMES: usize = 1 << 32;
 
 /// Where each of these names stands first.
 pub fn first_places(alloc: Global, names: &[&Name]) -> Result<IndexMap<String, u32>, NoMemory>

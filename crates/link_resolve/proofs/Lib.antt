@@ -1,0 +1,5 @@
+pub mod Resolving
+pub mod Adding
+pub mod ResolvedRuns
+pub mod LinkedTrees
+pub mod ModuleParts

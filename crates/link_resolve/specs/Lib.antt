@@ -1,0 +1,3 @@
+pub mod Walking
+pub mod CalleesAdded
+pub mod LinkedTexts

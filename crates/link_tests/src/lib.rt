@@ -1,0 +1,5 @@
+//! Tests of the calls that link module texts.
+#![tactic(auto)]
+
+#[cfg(test)]
+mod first_faults;
