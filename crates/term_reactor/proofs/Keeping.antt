@@ -1,5 +1,5 @@
 -- What holds of where the machine stands stays through each event.
-use Rattle.std.proofs.Common.{◌≡◌, ℕ, suc, ◌<◌, ◌≤◌, Option, Some, None, List, [], ◌∷◌, map, length, take, refl, sym, ◌∙◌, ap, subst, arith}
+use Rattle.std.proofs.Common.{◌≡◌, ℕ, zero, suc, ◌<◌, ◌≤◌, Option, Some, None, List, [], ◌∷◌, map, length, take, refl, sym, ◌∙◌, ap, subst, arith}
 use Rattle.hh_base.specs.declared.value.Value.{Value}
 use Rattle.hh_term.specs.declared.program.SignalDecl.{SignalDecl}
 use Rattle.hh_term.specs.Kernel.{Kernel}
@@ -7,13 +7,13 @@ use Rattle.hh_term.specs.Reaction as term
 use Rattle.exec_instance.specs.declared.answer.Answer.{Answer}
 use Rattle.reaction_run.specs.declared.event.Event.{Event}
 use Rattle.reaction_run.specs.declared.event.Input.{Input}
-use Rattle.reaction_run.specs.Machine.{State, Outcome, Completes, Completed}
+use Rattle.reaction_run.specs.Machine.{State, Outcome, Completes, Completed, begin}
 use Rattle.reaction_run.specs.Run.{next_state, state_after, outcome, with_answers}
 use Rattle.reaction_run.proofs.Events.{of_event}
 use Rattle.term_machine.specs.Place.{Place, start_of, control_with_queues}
 use Rattle.term_machine.specs.ConstructiveMachine.{constructive, completed_by, outcome_by, input_pair}
 use Rattle.term_machine.specs.Standing.{Stands}
-use Rattle.term_machine.proofs.Standing.{stands_from}
+use Rattle.term_machine.proofs.Standing.{stands, stands_from}
 use Rattle.term_reactor.specs.Standing.{Keeps}
 use Rattle.term_reactor.proofs.Shapes.{Shape, shape}
 
@@ -49,7 +49,8 @@ completes_same S inputs took c e =
     }
 
 firsts_many : (ds : List SignalDecl) (n : ℕ) → n ≤ length ds → length (map term.first_last (take n ds)) ≡ n
-firsts_many ds 0 h = refl
+firsts_many [] zero h = refl
+firsts_many (d ∷ ds) zero h = refl
 firsts_many [] (suc n) h = absurd (omega arith)
 firsts_many (d ∷ ds) (suc n) h = ap suc (firsts_many ds n (omega arith))
 
@@ -63,3 +64,13 @@ event_same S e h = at S e h
 
 pub keeps_on : (S : State Place) (e : Event) → S.place.kernel.interface ≤ length S.place.kernel.signals → Keeps S → Keeps (next_state constructive S e)
 keeps_on S e h k = let s = event_same S e h in record { stands = stands_from S (e ∷ []) k.stands; lasts = s.lasts k.lasts ∙ ap (λ (K : Kernel). K.interface) (sym s.kernel) }
+
+-- where the machine begins
+
+pub keeps_start : (K : Kernel) (last : ℕ) (S : State Place) → K.interface ≤ length K.signals → S ≡ begin constructive (start_of K) last → Keeps S
+keeps_start K last S h e =
+    subst Keeps (sym e) (record { stands = stands K last []; lasts = firsts_many K.signals K.interface h })
+
+-- the next state of the code is that of the definitions
+pub keeps_next : (S next : State Place) (e : Event) → S.place.kernel.interface ≤ length S.place.kernel.signals → Keeps S → next ≡ next_state constructive S e → Keeps next
+keeps_next S next e h k is = subst Keeps (sym is) (keeps_on S e h k)
