@@ -5,3 +5,4 @@ pub mod Room
 pub mod Turning
 pub mod Killing
 pub mod Resetting
+pub mod Pumping

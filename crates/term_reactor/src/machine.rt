@@ -19,5 +19,5 @@ pub struct TermMachine {
     kinds: Vec<Kind>,
     stand: Stand,
     pub ghost keeps: { Keeps (state_at (kernel_of program) stand) } by { keeps_prop (state_at (kernel_of program) stand) },
-    pub ghost answers: { ∥ kinds.items ≡ map body_answers (kernel_of program).bodies ∥₁ },
+    pub ghost answers: { kinds.items ≡ map body_answers (kernel_of program).bodies },
 }

@@ -11,5 +11,5 @@ invariant_of-result c =
     let K = kernel_of c.args.program in
     record {
       keeps = keeps_start K c.args.last (state_at K c.in_ok-stand.stand) (rules_declared K c.args.program.rules) c.in_ok-stand.ensures;
-      answers = ∣ c.in_ok-kinds.ensures ∙ ap (map body_answers) c.bodies.ensures.kernel ∣₁;
+      answers = c.in_ok-kinds.ensures ∙ ap (map body_answers) c.bodies.ensures.kernel;
     }
