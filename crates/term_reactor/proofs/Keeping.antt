@@ -1,18 +1,16 @@
 -- What holds of where the machine stands stays through each event.
-use Rattle.std.proofs.Common.{◌≡◌, ℕ, zero, suc, ◌<◌, ◌≤◌, Option, Some, None, List, [], ◌∷◌, map, length, take, refl, sym, ◌∙◌, ap, subst, arith}
-use Rattle.hh_base.specs.declared.value.Value.{Value}
+use Rattle.std.proofs.Common.{◌≡◌, ℕ, zero, suc, ◌≤◌, List, [], ◌∷◌, map, length, take, refl, sym, ◌∙◌, ap, subst, arith}
 use Rattle.hh_term.specs.declared.program.SignalDecl.{SignalDecl}
 use Rattle.hh_term.specs.Kernel.{Kernel}
 use Rattle.hh_term.specs.Reaction as term
 use Rattle.exec_instance.specs.declared.answer.Answer.{Answer}
 use Rattle.reaction_run.specs.declared.event.Event.{Event}
 use Rattle.reaction_run.specs.declared.event.Input.{Input}
-use Rattle.reaction_run.specs.Machine.{State, Outcome, Completes, Completed, begin}
+use Rattle.reaction_run.specs.Machine.{State, Completes, Completed, begin}
 use Rattle.reaction_run.specs.Run.{next_state, state_after, outcome, with_answers}
 use Rattle.reaction_run.proofs.Events.{of_event}
 use Rattle.term_machine.specs.Place.{Place, start_of, control_with_queues}
 use Rattle.term_machine.specs.ConstructiveMachine.{constructive, completed_by, outcome_by, input_pair}
-use Rattle.term_machine.specs.Standing.{Stands}
 use Rattle.term_machine.proofs.Standing.{stands, stands_from}
 use Rattle.term_reactor.specs.Standing.{Keeps}
 use Rattle.term_reactor.proofs.Shapes.{Shape, shape}

@@ -1,5 +1,5 @@
 -- A reset kills each instance that runs, with the action of its async.
-use Rattle.std.proofs.Common.{◌≡◌, ℕ, zero, suc, ◌+◌, ◌<◌, ◌≤◌, Bool, true, false, cond, Option, Some, None, List, [], ◌∷◌, ◌++◌, map, length, refl, sym, ◌∙◌, ap, subst, arith, append-nil}
+use Rattle.std.proofs.Common.{◌≡◌, ℕ, suc, ◌+◌, Bool, true, false, cond, Option, Some, None, List, [], ◌∷◌, ◌++◌, map, length, refl, sym, ◌∙◌, ap, arith, append-nil}
 use Rattle.std.specs.Prelude.{◌==◌, ◌&&◌, not, is_none, is_some, if◌then◌else◌, find}
 use Rattle.std.specs.List.{AllByRecursion, cons_option}
 use Rattle.std.proofs.lemmas.List.{map-append}
@@ -17,10 +17,10 @@ use Rattle.exec_instance.specs.declared.table.Row.{Row}
 use Rattle.exec_instance.specs.declared.table.Row.TheVariants as row
 use Rattle.exec_instance.specs.Changes.{is_of, change_of}
 use Rattle.exec_instance.specs.Effects.{effect_in, with_change, row_of, born, last_after, old_effects, effects, after_change, kept, advanced, started}
-use Rattle.exec_instance.specs.Running.{holder, RiseFrom}
+use Rattle.exec_instance.specs.Running.{holder}
 use Rattle.reaction_run.specs.Machine.{State}
 use Rattle.reaction_run.specs.Run.{killed}
-use Rattle.term_machine.specs.Place.{Place, holds_in, kill_at, kill_of, kill_of_site}
+use Rattle.term_machine.specs.Place.{Place, holds_in, kill_of, kill_of_site}
 use Rattle.term_machine.specs.ConstructiveMachine.{change_by, constructive}
 use Rattle.term_machine.specs.Standing.{times, Stands}
 use Rattle.term_machine.proofs.Tracking.{id_of}

@@ -1,5 +1,5 @@
 -- What the code makes of a reset is the machine's reply and its next state.
-use Rattle.std.proofs.Common.{◌≡◌, ℕ, ◌<◌, List, [], ◌∷◌, ◌++◌, map, refl, sym, ◌∙◌, ap, subst}
+use Rattle.std.proofs.Common.{◌≡◌, ℕ, ◌<◌, List, [], ◌++◌, map, sym, ◌∙◌, ap, subst}
 use Rattle.std.specs.Prelude.{◌^◌}
 use Rattle.hh_term.specs.Kernel.{Kernel}
 use Rattle.hh_term.specs.Reaction as term
@@ -12,9 +12,8 @@ use Rattle.exec_instance.specs.Running.{Running}
 use Rattle.status_rounds.specs.declared.settle.Before.{Before}
 use Rattle.status_rounds.specs.Before.{lasts_of}
 use Rattle.reaction_run.specs.declared.reply.Reply.TheVariants as reply
-use Rattle.reaction_run.specs.Machine.{State}
 use Rattle.reaction_run.specs.Run.{killed}
-use Rattle.term_machine.specs.Place.{Place, start_of}
+use Rattle.term_machine.specs.Place.{start_of}
 use Rattle.term_machine.specs.ConstructiveMachine.{constructive}
 use Rattle.term_machine.specs.Standing.{Stands}
 use Rattle.term_reactor.specs.declared.stand.Stand.{Stand}
@@ -31,7 +30,7 @@ module _ (K : Kernel) (stand : Stand) (s : Stands (state_at K stand)) (cs : List
 
   pub resets : (after : Running) (first kills told : List Effect) (before : Before) (pending : List Answer) → after ≡ advanced_by cs copy → kills ≡ first ++ effects copy.last cs copy.instances → first ≡ [] → told ≡ kills → lasts_of before.cells.items ≡ term.first_lasts K → pending ≡ stand.pending
       → IsTurn K (reply.Reset (map (killed constructive (state_at K stand)) stand.instances.instances)) (record { place = start_of K; running = []; pending = stand.pending; last = stand.instances.last })
-        (record { reply = reply.Reset told; next = record { control = control.Fresh; before = before; instances = after; pending = pending } })
+      (record { reply = reply.Reset told; next = record { control = control.Fresh; before = before; instances = after; pending = pending } })
   resets after first kills told before pending advances tells none same firsts waits =
       record {
         reply =

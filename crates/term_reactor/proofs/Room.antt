@@ -1,7 +1,6 @@
 -- Ids are left for all that a reaction starts: a program has few asyncs, and each rests once at most.
-use Rattle.std.proofs.Common.{◌≡◌, ℕ, zero, suc, ◌+◌, ◌<◌, ◌≤◌, Bool, true, false, cond, Option, Some, None, List, [], ◌∷◌, ◌++◌, map, length, refl, sym, ◌∙◌, ap, subst, arith}
+use Rattle.std.proofs.Common.{◌≡◌, ℕ, suc, ◌+◌, ◌<◌, ◌≤◌, Bool, true, false, cond, Option, Some, None, List, [], ◌∷◌, ◌++◌, map, length, sym, ◌∙◌, ap, subst, arith}
 use Rattle.std.specs.Prelude.{◌==◌, ◌&&◌, ◌^◌, nat_lt, is_some, if◌then◌else◌}
-
 use Rattle.std.proofs.Math.Bridge.{le_prop}
 use Rattle.std.proofs.lemmas.List.FromFn.{length-range_with_len}
 use Rattle.std.proofs.Math.Logic.{∥∥₁_elim}
@@ -13,19 +12,18 @@ use Rattle.hh_term.specs.Kernel.{Kernel, AsyncSite}
 use Rattle.hh_term.specs.Marks.{IsMarkOf, IsControlOf, ids_in, ids_of}
 use Rattle.hh_term.specs.Scopes.{sites_of}
 use Rattle.hh_term.specs.IsProgram.{IsProgram}
-use Rattle.hh_term.specs.Touches.{Touch, by_site, numbered}
+use Rattle.hh_term.specs.Touches.{Touch, by_site}
 use Rattle.hh_term.specs.Reaction.{Last, Completed, Completes, reaction}
 use Rattle.exec_instance.specs.declared.instance.Instance.{Instance}
 use Rattle.exec_instance.specs.Effects.{born, last_after}
-use Rattle.exec_instance.specs.Running.{holder, IsRising}
 use Rattle.reaction_run.specs.Machine.{State}
 use Rattle.reaction_run.specs.Run.{last_limit}
 use Rattle.reaction_run.proofs.Holders.{held_above}
 use Rattle.term_machine.specs.Place.{Place, control_with_queues}
 use Rattle.term_machine.specs.ConstructiveMachine.{change_by, has_sites}
 use Rattle.term_machine.specs.Standing.{times, Stands}
-use Rattle.term_machine.proofs.Tracking.{Tracks, MarkIs, ids_next, going_ids}
-use Rattle.term_machine.proofs.Touched.{total, old_with, going_with, is_new, unfair, total_by_site, old_times, going_times, none_unfair, born_count, new_going}
+use Rattle.term_machine.proofs.Tracking.{MarkIs, ids_next}
+use Rattle.term_machine.proofs.Touched.{total, old_with, going_with, unfair, total_by_site, old_times, going_times, none_unfair, born_count, new_going}
 use Rattle.term_machine.proofs.Reactions.{OnOutcome, Moves, moves}
 use Rattle.term_machine.proofs.Waiting.{ids_with_queues, rests_with_queues}
 
@@ -74,7 +72,6 @@ next_few : (p : Statement) (o : Option Selection) → MarkIs (IsMarkOf p) o → 
 next_few p (Some m) h = marked_few p m h
 next_few p None h = omega arith
 
-
 sites_many : (K : Kernel) → ∥ IsProgram K ∥₁ → length (sites_of K.statement) ≤ length K.sites
 sites_many K rules = ∥∥₁_elim rules le_prop (λ r. let e = ap (λ (xs : List ℕ). length xs) r.sites_in_order ∙ length-range_with_len 0 (length K.sites) in omega arith)
 
@@ -90,12 +87,12 @@ born_few K c before is last d e rests none =
     let all_fair : total unfair (by_site a.touches) ≡ 0 = total_by_site unfair a.touches ∙ none_unfair a.touches m.steps.1 in
     let no_olds : total (old_with 0) (by_site a.touches) ≡ 0 = total_by_site (old_with 0) a.touches ∙ sym (old_times 0 a.touches) ∙ ap (times 0) t.olds ∙ none in
     let count : length (born last (map (change_by K) d.touches)) ≡ times 0 (ids_next a.next) =
-        ap (λ (ts : List Touch). length (born last (map (change_by K) ts))) m.touches
-        ∙ born_count K (by_site a.touches) last last
-        ∙ sym (new_going (by_site a.touches) all_fair no_olds)
-        ∙ total_by_site (going_with 0) a.touches
-        ∙ sym (going_times 0 a.touches)
-        ∙ ap (times 0) t.going in
+    ap (λ (ts : List Touch). length (born last (map (change_by K) ts))) m.touches
+    ∙ born_count K (by_site a.touches) last last
+    ∙ sym (new_going (by_site a.touches) all_fair no_olds)
+    ∙ total_by_site (going_with 0) a.touches
+    ∙ sym (going_times 0 a.touches)
+    ∙ ap (times 0) t.going in
     let few = times_few 0 (ids_next a.next) in
     let rest = next_few K.statement a.next t.mark in
     omega arith

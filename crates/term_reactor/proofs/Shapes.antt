@@ -1,6 +1,6 @@
 -- What a reaction of a program gives, whatever it decides: what is undecided is of the interface, and each interface signal has a
 -- status and a value then.
-use Rattle.std.proofs.Common.{◌≡◌, ℕ, zero, suc, ◌+◌, ◌<◌, ◌≤◌, Bool, true, false, cond, Option, Some, None, List, [], ◌∷◌, map, length, refl, sym, ◌∙◌, ap, subst, arith}
+use Rattle.std.proofs.Common.{◌≡◌, ℕ, suc, ◌+◌, ◌<◌, ◌≤◌, Bool, true, false, cond, Option, Some, None, List, [], ◌∷◌, map, length, refl, ◌∙◌, ap, arith}
 use Rattle.std.specs.Prelude.{◌&&◌, fold}
 use Rattle.std.specs.List.{AllByRecursion}
 use Rattle.hh_base.specs.declared.value.Pos.{Pos}
@@ -10,7 +10,7 @@ use Rattle.host_expr.specs.Environment.{Env, blank, is_decided, is_known}
 use Rattle.hh_term.specs.Selection.{Control}
 use Rattle.hh_term.specs.Kernel.{Kernel}
 use Rattle.hh_term.specs.MustCan.{Bag, Table, table_of}
-use Rattle.hh_term.specs.Reaction.{Last, Outer, Now, Ran, Completed, Outcome, Undecided, Doubled, Faulted, Completes, program_step, program_must_can, completed, concluded, reaction, solved, undecided, leave_all, first_declared, earlier, outers_from, now_of, last_of}
+use Rattle.hh_term.specs.Reaction.{Last, Outer, Ran, Completed, Outcome, Undecided, Doubled, Faulted, Completes, program_step, program_must_can, completed, concluded, reaction, solved, undecided, leave_all, first_declared, earlier, outers_from, now_of}
 
 -- of an interface with n signals
 abbrev pub Shape : ℕ → Outcome → Type 0

@@ -1,6 +1,6 @@
 -- What the code makes of a reaction is the machine's reply and its next state.
-use Rattle.std.proofs.Common.{◌≡◌, ℕ, ◌<◌, Bool, false, true, Option, Some, None, List, [], ◌∷◌, ◌++◌, map, length, refl, sym, ◌∙◌, ap, subst, arith}
-use Rattle.std.specs.Prelude.{Result, Ok, Err, IfOk, ◌≢◌, ◌&&◌, ◌^◌, nat_lt, suc, if◌then◌else◌}
+use Rattle.std.proofs.Common.{◌≡◌, ℕ, ◌<◌, Bool, false, true, List, [], ◌∷◌, ◌++◌, map, length, refl, sym, ◌∙◌, ap, subst}
+use Rattle.std.specs.Prelude.{Result, Ok, Err, IfOk, ◌≢◌, ◌^◌, suc, if◌then◌else◌}
 use Rattle.std.specs.List.{AllByRecursion}
 use Rattle.hh_base.specs.declared.value.Value.{Value}
 use Rattle.hh_base.specs.declared.value.Kind.{Kind}
@@ -8,7 +8,7 @@ use Rattle.hh_term.specs.Kernel.{Kernel}
 use Rattle.hh_term.specs.IsProgram.{IsProgram}
 use Rattle.hh_term.specs.Pairs.{EachPair}
 use Rattle.hh_term.specs.Selection.{Control}
-use Rattle.hh_term.specs.Marks.{IdsDiffer, ids_of}
+use Rattle.hh_term.specs.Marks.{IdsDiffer}
 use Rattle.hh_term.specs.Reaction as term
 use Rattle.hh_term.specs.Views.{control_of}
 use Rattle.exec_instance.specs.declared.answer.Answer.{Answer}
@@ -22,16 +22,15 @@ use Rattle.reaction_run.specs.declared.event.Input.{Input}
 use Rattle.reaction_run.specs.declared.reply.Reply.{Reply}
 use Rattle.reaction_run.specs.declared.reply.Reply.TheVariants as reply
 use Rattle.reaction_run.specs.Machine.{State, Outcome, Undecided, Doubled, Faulted, Completes, Completed}
-use Rattle.reaction_run.specs.Run.{reply_to, state_after, outcome, with_answers, is_worn, refused, reply_of_reaction, after_reaction, last_limit}
-use Rattle.status_rounds.specs.Before.{lasts_of, last_at}
+use Rattle.reaction_run.specs.Run.{reply_to, state_after, outcome, with_answers, is_worn, refused, reply_of_reaction, after_reaction}
+use Rattle.status_rounds.specs.Before.{lasts_of}
 use Rattle.status_rounds.specs.Given.{NoneTwice}
 use Rattle.sync_step.specs.Told.{Tells}
 use Rattle.sync_step.specs.declared.answer.StepEnd.{StepEnd}
 use Rattle.sync_step.specs.declared.answer.StepEnd.TheVariants as end
 use Rattle.term_machine.specs.Place.{Place, control_with_queues}
-use Rattle.term_machine.specs.ConstructiveMachine.{constructive, completed_by, outcome_by, input_pair, has_sites}
+use Rattle.term_machine.specs.ConstructiveMachine.{constructive, completed_by, outcome_by, input_pair}
 use Rattle.term_machine.specs.Standing.{Stands}
-use Rattle.term_machine.proofs.Standing.{ids_differ}
 use Rattle.term_machine.proofs.Waiting.{ids_with_queues}
 use Rattle.term_reactor.specs.declared.ending.Ending.{Ending}
 use Rattle.term_reactor.specs.declared.ending.Ending.TheVariants as ending
@@ -39,7 +38,7 @@ use Rattle.term_reactor.specs.declared.ending.Finish.{Finish}
 use Rattle.term_reactor.specs.declared.stand.Turn.{Turn}
 use Rattle.term_reactor.specs.declared.stand.Stand.{Stand}
 use Rattle.term_reactor.specs.Ending.{Means, AreOfInterface, completed_of}
-use Rattle.term_reactor.specs.Standing.{state_at, Keeps, IsTurn}
+use Rattle.term_reactor.specs.Standing.{state_at, IsTurn}
 use Rattle.term_reactor.proofs.Shapes.{Shape, shape}
 use Rattle.term_reactor.proofs.Room.{has_room}
 
@@ -179,9 +178,9 @@ module _ (K : Kernel) (stand : Stand) (kinds : List Kind) (inputs : List Input) 
   completes f drops_told result is dropped turn took w =
       when_ok result (IsTurn K (done_of (completed_of K f) drops_told after.instances after.last) (next_of (completed_of K f) after.instances after.last)) (IsTurn K (reply_to constructive S took (outcome constructive S inputs took)) (state_after constructive S took (outcome constructive S inputs took)))
       (λ t i. completed_turn K S took (outcome constructive S inputs took) f drops_told after.instances after.last t (subst (Means K (outcome constructive S inputs took)) is (means_now took w)) last_same (entered_same took w)
-        (dropped ∙ ap (λ (r : Running). drops (under kinds true r.last) r.instances waiting) copied
-        ∙ ap (λ (ks : List Kind). drops (under ks true stand.instances.last) stand.instances.instances waiting) of_bodies
-        ∙ ap (λ (xs : List Answer). drops (under (constructive.kinds S.place) true stand.instances.last) stand.instances.instances xs) w) i) (turn K)
+      (dropped ∙ ap (λ (r : Running). drops (under kinds true r.last) r.instances waiting) copied
+      ∙ ap (λ (ks : List Kind). drops (under ks true stand.instances.last) stand.instances.instances waiting) of_bodies
+      ∙ ap (λ (xs : List Answer). drops (under (constructive.kinds S.place) true stand.instances.last) stand.instances.instances xs) w) i) (turn K)
 
 pub from_nothing : (told first more : List Effect) → told ≡ first ++ more → first ≡ [] → told ≡ more
 from_nothing told first more is none = is ∙ ap (λ (xs : List Effect). xs ++ more) none

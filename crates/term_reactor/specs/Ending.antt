@@ -1,9 +1,8 @@
 -- What the code makes of the answer to a reaction stands for the machine's outcome. (This project's own.)
-use Rattle.std.specs.Prelude.{◌≡◌, ℕ, ◌<◌, ◌^◌, None, List, map}
+use Rattle.std.specs.Prelude.{◌≡◌, ◌<◌}
 use Rattle.std.specs.List.{AllByRecursion}
 use Rattle.hh_term.specs.Kernel.{Kernel}
 use Rattle.hh_term.specs.Views.{control_of}
-use Rattle.exec_instance.specs.Effects.{last_after}
 use Rattle.status_rounds.specs.Before.{lasts_of}
 use Rattle.sync_step.specs.declared.answer.StepEnd.{StepEnd}
 use Rattle.sync_step.specs.declared.answer.StepEnd.TheVariants as step
@@ -35,8 +34,3 @@ Means K _ _ = ⊥
 abbrev pub AreOfInterface : Kernel → StepEnd → Type 0
 AreOfInterface K (step.Undecided signals) = AllByRecursion (λ s. s < K.interface) signals.items
 AreOfInterface K _ = Unit {0}
-
--- ids are left for what is started
-abbrev pub IdsLeft : ℕ → Ending → Type 0
-IdsLeft last (ending.Finished f) = last_after last f.changes.items < 2 ^ 64
-IdsLeft last _ = Unit {0}

@@ -24,7 +24,11 @@ use sqlite_items::Items;
 use std::alloc::Global;
 
 /// The instances that control holds, none of which runs after.
-fn stopped_touches(alloc: Global, program: &Program, control: &Control) -> Result<Vec<Touch>, NoMemory>
+fn stopped_touches(
+    alloc: Global,
+    program: &Program,
+    control: &Control,
+) -> Result<Vec<Touch>, NoMemory>
     ensures { IfOk result (λ v. map touch_of v.items
         ≡ map stopped (holds_in (kernel_of program.now) (control_of control.now))) }
 {

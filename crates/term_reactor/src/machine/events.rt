@@ -40,14 +40,7 @@ impl TermMachine {
             (reply_of_reaction constructive (state_of self.now) inputs.now took.now)
             (after_reaction constructive (state_of self.now) inputs.now took.now)) }
     {
-        react_at(
-            alloc,
-            &self.program,
-            &self.kinds,
-            &self.stand,
-            inputs,
-            took,
-        )
+        react_at(alloc, &self.program, &self.kinds, &self.stand, inputs, took)
     }
 
     /// Adds the entry of an event and goes where it leads.
@@ -103,7 +96,12 @@ impl Reactor for TermMachine {
         Ok(reply)
     }
 
-    fn pump(&mut self, alloc: Global, took: &mut Answers, log: &mut Log) -> Result<Reply, NoMemory> {
+    fn pump(
+        &mut self,
+        alloc: Global,
+        took: &mut Answers,
+        log: &mut Log,
+    ) -> Result<Reply, NoMemory> {
         let event = Event::Pump(copy_answers(alloc, took)?);
         if took.is_empty() && self.stand.pending.is_empty() {
             log.push(Entry {

@@ -7,9 +7,11 @@ pub loop-signals-init : goal.loop-signals-init
 loop-signals-init c = (omega arith, none_apart c.args.inputs.now)
 
 pub returns-then-signals-from-le-BLOCK : goal.returns-then-signals-from-le-BLOCK
-returns-then-signals-from-le-BLOCK c =
-    ((λ yes'. all_apart c.args.signals (c.loop-signals.from + BLOCK) c.args.inputs.now c.requires (let h = c.if-signals-from-le-BLOCK.true in omega arith)
-      (next_block c.loop-signals.from (c.loop-signals.from + BLOCK) c.args.inputs.now c.loop-signals.invariant.1 (c.loop-signals-test.ensures.0 refl))), λ d. refl)
+returns-then-signals-from-le-BLOCK c = (
+  (λ yes'. all_apart c.args.signals (c.loop-signals.from + BLOCK) c.args.inputs.now c.requires (let h = c.if-signals-from-le-BLOCK.true in omega arith)
+      (next_block c.loop-signals.from (c.loop-signals.from + BLOCK) c.args.inputs.now c.loop-signals.invariant.1 (c.loop-signals-test.ensures.0 refl))),
+  λ d. refl,
+)
 
 pub loop-signals-preserved : goal.loop-signals-preserved
 loop-signals-preserved c =

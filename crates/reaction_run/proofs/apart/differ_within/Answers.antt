@@ -15,9 +15,9 @@ pub loop-input-preserved : goal.loop-input-preserved
 loop-input-preserved c =
     elim c.if-signal-from.branch [
       | then-signal-from+then-signal-from-lt-BLOCK+else-seen-signal w ↦ subst (λ (seen : List Bool). Decides c.args.from (c.args.from + BLOCK) BLOCK seen (drop (c.loop-input.input-index + 1) c.args.inputs.now) c.args.inputs.now) (sym w.seen-is)
-        (goes_on c.args.from (c.args.from + BLOCK) BLOCK c.loop-input.seen c.input-item.result c.loop-input.input-index c.args.inputs.now c.loop-input-test.true c.input-item.is w.if-signal-from.true w.if-signal-from-lt-BLOCK.true w.if-seen-signal.false c.loop-input.invariant)
+          (goes_on c.args.from (c.args.from + BLOCK) BLOCK c.loop-input.seen c.input-item.result c.loop-input.input-index c.args.inputs.now c.loop-input-test.true c.input-item.is w.if-signal-from.true w.if-signal-from-lt-BLOCK.true w.if-seen-signal.false c.loop-input.invariant)
       | else-signal-from w ↦ subst (λ (seen : List Bool). Decides c.args.from (c.args.from + BLOCK) BLOCK seen (drop (c.loop-input.input-index + 1) c.args.inputs.now) c.args.inputs.now) (sym w.seen-is)
-        (passes c.args.from (c.args.from + BLOCK) BLOCK c.loop-input.seen c.input-item.result c.loop-input.input-index c.args.inputs.now c.loop-input-test.true c.input-item.is
+          (passes c.args.from (c.args.from + BLOCK) BLOCK c.loop-input.seen c.input-item.result c.loop-input.input-index c.args.inputs.now c.loop-input-test.true c.input-item.is
           (elim w.else-signal-from.branch [
             | else-signal-from-via-then-signal-from+else-signal-from-lt-BLOCK w' ↦ λ low within. let h = w'.if-signal-from-lt-BLOCK.false in omega arith
             | else-signal-from-via-else-signal-from w' ↦ λ low within. let h = w'.if-signal-from.false in omega arith

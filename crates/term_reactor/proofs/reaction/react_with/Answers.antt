@@ -1,6 +1,5 @@
 use Rattle.std.proofs.Common.{arith}
 use Rattle.hh_term.specs.ProgramView.{kernel_of}
-use Rattle.term_reactor.specs.declared.ending.Ending.TheVariants as ending
 use Rattle.term_reactor.proofs.Turning.{asks_interface, asks_room, refuses, completes, from_nothing}
 use Rattle.term_reactor.proofs.reaction.react_with.Goals as goal
 
