@@ -8,3 +8,4 @@ pub mod Stages
 pub mod Using
 pub mod Runs
 pub mod Pairs
+pub mod Halving

@@ -5,3 +5,4 @@ pub mod Laws
 pub mod Told
 pub mod Lives
 pub mod Reacting
+pub mod Apart

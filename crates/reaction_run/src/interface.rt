@@ -1,11 +1,10 @@
 //! Which inputs fit an interface, and which ids need no answer more.
 
-ghost use Rattle.std.specs.Prelude.{◌≡◌, ◌≢◌, ℕ, List, ◌↔◌, IsTrue};
+ghost use Rattle.std.specs.Prelude.{◌≡◌, ℕ, List, ◌↔◌, IsTrue};
 ghost use Rattle.std.specs.List.{AllByRecursion, list_any};
-ghost use Rattle.hh_term.specs.Pairs.{EachPair};
-ghost use Rattle.reaction_run.specs.declared.event.Input.{Input as AnInput};
 ghost use Rattle.reaction_run.specs.Reacting.{is_given, InputFits, InputsFit, is_last_for};
 
+use crate::apart::all_differ;
 use crate::event::Input;
 use exec_instance::answer::Answers;
 use hh_base::value::Dir;
@@ -35,32 +34,12 @@ fn each_fits(interface: &[SignalDecl], inputs: &[Input]) -> bool
     inputs.iter().all(|input| input_fits(interface, input))
 }
 
-/// Whether no input is of the same signal.
-fn is_none_of(input: &Input, others: &[Input]) -> bool
-    ensures { IsTrue result ↔ AllByRecursion (λ j. input.now.signal ≢ j.signal) others.now }
-{
-    others.iter().all(|other| input.signal != other.signal)
-}
-
-fn all_differ(inputs: &[Input]) -> bool
-    ensures { IsTrue result ↔ EachPair (λ (i : AnInput) (j : AnInput). i.signal ≢ j.signal) inputs.now }
-{
-    let mut at = inputs.len();
-    while at > 0 {
-        at -= 1;
-        if !is_none_of(&inputs[at], &inputs[at + 1..]) {
-            return false;
-        }
-    }
-    true
-}
-
 /// Whether each input names an `in` or `inout` signal of the interface and has its kind, and no signal stands
 /// twice.
 pub fn inputs_fit(interface: &[SignalDecl], inputs: &[Input]) -> bool
     ensures { IsTrue result ↔ InputsFit interface.now inputs.now }
 {
-    each_fits(interface, inputs) && all_differ(inputs)
+    each_fits(interface, inputs) && all_differ(interface.len(), inputs)
 }
 
 /// Whether one of the answers is a last one to the instance with this id.

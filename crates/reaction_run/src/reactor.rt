@@ -4,6 +4,7 @@ ghost use Rattle.std.specs.Prelude.{◌≡◌, ℕ, [], List, ◌↔◌, IsTrue,
 ghost use Rattle.std.specs.List.{AllByRecursion};
 ghost use Rattle.std.specs.Option.{option_copied};
 ghost use Rattle.hh_term.specs.declared.program.SignalDecl.{SignalDecl as Declared};
+ghost use Rattle.exec_instance.specs.Running.{holder};
 ghost use Rattle.reaction_run.specs.declared.event.Event.TheVariants.{React, Pump, Reset};
 ghost use Rattle.reaction_run.specs.Machine.{Machine, State};
 ghost use Rattle.reaction_run.specs.Run.{replies, final_state};
@@ -78,6 +79,10 @@ pub trait Reactor {
     /// The running instance at this place in the order of ids, or None past the last one. Takes no memory.
     fn running(&self, index: usize) -> Option<&Instance>
         ensures { option_copied result ≡ slice_get (state self.now).running index };
+
+    /// The running instance with this id, or None where none runs with it. Takes no memory.
+    fn running_with(&self, id: u64) -> Option<&Instance>
+        ensures { option_copied result ≡ holder (state self.now).running id };
 
     /// Whether no instance with the id runs, its last answer has entered, or a last answer to it waits. Takes
     /// no memory.

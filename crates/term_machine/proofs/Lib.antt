@@ -3,6 +3,6 @@ pub mod Fairness
 pub mod Numbering
 pub mod Touched
 pub mod Reactions
-pub mod Queues
+pub mod Waiting
 pub mod Standing
 pub mod Rows

@@ -4,8 +4,11 @@ use Rattle.std.specs.Prelude.{pos}
 use Rattle.hh_base.specs.declared.value.Kind.TheVariants as kind
 use Rattle.hh_base.specs.declared.value.Value.{Value}
 use Rattle.hh_base.specs.declared.value.Value.TheVariants as value
-use Rattle.host_expr.specs.declared.expr.Op.TheVariants.{Add}
-use Rattle.host_expr.specs.Expression.{Int, Now, Arg, Arith}
+use Rattle.host_expr.specs.declared.expr.Op.TheVariants.{Add, Div}
+use Rattle.host_expr.specs.Combination.{counts_as}
+use Rattle.host_expr.specs.Environment.{blank}
+use Rattle.host_expr.specs.Evaluation.{eval_of}
+use Rattle.host_expr.specs.Expression.{Int, Now, Arg, Arith, Expression}
 use Rattle.hh_term.specs.Statement.{Nothing, Pause, If, Suspend, Seq, Par, Loop, Local, Async}
 use Rattle.hh_term.specs.Kernel.{Kernel, AsyncSite, Body}
 use Rattle.hh_term.proofs.Runs.{input, number, hidden, program, emit, position, is, halt, abort}
@@ -179,3 +182,29 @@ last_ids :
     ≡ tells [] (starts 18446744073709550592 ∷ []) ∷ reply.Worn 18446744073709550592 ∷ reply.Reset (kills 18446744073709550592 ∷ [])
     ∷ reply.Worn 18446744073709550592 ∷ []
 last_ids = refl
+
+-- and none from the start
+no_ids :
+    replies constructive (begin constructive (start_of one_call) 18446744073709550592) (react [] ∷ react [] ∷ [])
+    ≡ reply.Worn 18446744073709550592 ∷ reply.Worn 18446744073709550592 ∷ []
+no_ids = refl
+
+-- ---- body part(a: int): int { 10 / a } module M(out N: int) { async (N) call part(0); }
+abbrev divided : Expression
+divided = Arith (position 26) Div (Int (pos 10)) (Arg 0)
+
+abbrev part_call : Kernel
+part_call =
+    record one_call {
+      bodies = record { name = []; params = kind.Int ∷ []; answer = kind.Int; expr = Some divided; pos = position 5 } ∷ [];
+      sites = record { body = 0; signal = Some 0; args = Int (pos 0) ∷ []; kill = None; suspend = None; resume = None } ∷ [];
+    }
+
+-- what the body answers where it is called so: a fault counts as 0
+abbrev answers : Answer
+answers = record { id = 1; value = counts_as kind.Int (eval_of divided blank (value.Int (pos 0) ∷ [])); last = true }
+
+faulting_body :
+    run_of part_call (react [] ∷ react (answers ∷ []) ∷ [])
+    ≡ tells [] (Started 1 0 (value.Int (pos 0) ∷ []) ∷ []) ∷ ends (is 0 0 ∷ []) (ended 1 0 ∷ []) ∷ []
+faulting_body = refl

@@ -1,13 +1,15 @@
 -- In every run of the machine the ids in the marks are those of the running instances.
-use Rattle.std.proofs.Common.{inl, inr, ◌≡◌, ℕ, zero, suc, ◌+◌, ◌<◌, ◌≤◌, Bool, true, false, Option, Some, None, List, [], ◌∷◌, ◌++◌, map, length, refl, sym, ◌∙◌, ap, subst, arith}
-use Rattle.std.specs.Prelude.{◌&&◌, not, is_some, if◌then◌else◌, nat_le}
-use Rattle.std.specs.List.{list_all}
+use Rattle.std.proofs.Common.{inl, inr, ◌≡◌, ◌≢◌, ℕ, zero, suc, ◌+◌, ◌<◌, ◌≤◌, Bool, true, false, cond, Option, Some, None, List, [], ◌∷◌, ◌++◌, map, length, refl, sym, ◌∙◌, ap, subst, arith}
+use Rattle.std.specs.Prelude.{◌==◌, ◌&&◌, not, is_some, if◌then◌else◌, nat_le}
+use Rattle.std.specs.List.{AllByRecursion, list_all}
 use Rattle.std.specs.Option.{option_or}
 use Rattle.std.proofs.lemmas.Bool.{cases_lt}
+use Rattle.std.proofs.lemmas.Bool.Decides.{nat_tests}
 use Rattle.hh_term.specs.Statement.{Statement}
 use Rattle.hh_term.specs.Selection.{Selection, Control, At, Ended}
 use Rattle.hh_term.specs.Kernel.{Kernel}
-use Rattle.hh_term.specs.Marks.{IsMarkOf, IsControlOf, ids_of}
+use Rattle.hh_term.specs.Pairs.{EachPair}
+use Rattle.hh_term.specs.Marks.{IsMarkOf, IsControlOf, IdsDiffer, ids_of}
 use Rattle.hh_term.specs.Step.{Stepped}
 use Rattle.hh_term.specs.Touches.{Touch, by_site, numbered, marks_numbered}
 use Rattle.hh_term.specs.Reaction as term
@@ -33,7 +35,7 @@ use Rattle.term_machine.proofs.Fairness.{IsFair}
 use Rattle.term_machine.proofs.Numbering.{number, zeros, numbers, numbered_is, number_none, number_low, number_high, one_if, born_high}
 use Rattle.term_machine.proofs.Touched.{total, old_with, going_with, unfair, total_by_site, old_times, going_times, zeros_times, none_unfair, none_going, found_change, born_count, new_going, uses_one_each}
 use Rattle.term_machine.proofs.Reactions.{OnOutcome, Moves, moves}
-use Rattle.term_machine.proofs.Queues.{ids_with_queues, rests_with_queues}
+use Rattle.term_machine.proofs.Waiting.{ids_with_queues, rests_with_queues}
 
 -- control after a step
 
@@ -202,3 +204,44 @@ uses_in (Faulted at kind) h = tt
 pub constructive_uses_one : UsesOne constructive
 constructive_uses_one place running inputs last =
     uses_in (reaction_at place running inputs last) (λ x is. single_uses place.kernel place.kernel.statement (control_with_queues running place.control) last x (machine_moves place running inputs last x is))
+
+-- ids of which each stands there once at most differ
+
+times_same : (i : ℕ) (is : List ℕ) → times i (i ∷ is) ≤ 1 → times i is ≡ 0
+times_same i is h = none_more (i == i) (times i is) (same_id i) h
+  where
+    same_id : (i : ℕ) → (i == i) ≡ true
+    same_id i = grind (arith, nat_tests)
+
+    none_more : (b : Bool) (n : ℕ) → b ≡ true → cond b (suc n) n ≤ 1 → n ≡ 0
+    none_more true n e h = omega arith
+    none_more false n e h = cc
+
+times_tail : (id i : ℕ) (is : List ℕ) → times id (i ∷ is) ≤ 1 → times id is ≤ 1
+times_tail id i is h = at_most (i == id) (times id is) h
+  where
+    at_most : (b : Bool) (n : ℕ) → cond b (suc n) n ≤ 1 → n ≤ 1
+    at_most true n h = omega arith
+    at_most false n h = h
+
+all_apart : (i : ℕ) (is : List ℕ) → times i is ≡ 0 → AllByRecursion (λ j. i ≢ j) is
+all_apart i [] h = tt
+all_apart i (j ∷ js) h = let p = apart (j == i) (times i js) refl h in (p.0, all_apart i js p.1)
+  where
+    differs : (i j : ℕ) → (j == i) ≡ false → i ≢ j
+    differs i j e = grind (arith, nat_tests)
+
+    apart : (b : Bool) (n : ℕ) → (j == i) ≡ b → cond b (suc n) n ≡ 0 → (i ≢ j) × (n ≡ 0)
+    apart true n e h = absurd (omega arith)
+    apart false n e h = (differs i j e, h)
+
+each_differs : (is : List ℕ) → ((id : ℕ) → times id is ≤ 1) → EachPair (λ i j. i ≢ j) is
+each_differs [] h = tt
+each_differs (i ∷ is) h = (all_apart i is (times_same i is (h i)), each_differs is (λ id. times_tail id i is (h id)))
+
+once : (b : Bool) (n : ℕ) → n ≡ one_if b → n ≤ 1
+once true n e = omega arith
+once false n e = omega arith
+
+pub ids_differ : (S : State Place) → Stands S → IdsDiffer S.place.control
+ids_differ S s = each_differs (ids_of S.place.control) (λ id. once (is_some (holder S.running id)) (times id (ids_of S.place.control)) (s.marked id))

@@ -2,6 +2,7 @@
 
 ghost use Rattle.std.specs.Prelude.{◌≡◌, ℕ, List};
 ghost use Rattle.hh_term.specs.Kernel.{Kernel};
+ghost use Rattle.hh_term.specs.Marks.{IdsDiffer};
 ghost use Rattle.reaction_run.specs.declared.event.Event.{Event};
 ghost use Rattle.reaction_run.specs.Machine.{State, begin};
 ghost use Rattle.reaction_run.specs.Run.{final_state};
@@ -17,6 +18,7 @@ pub fn marks_are_the_running_instances()
         → Stands (final_state constructive (begin constructive (start_of K) last) events) }
     ensures stays { (S : State Place) (events : List Event) → Stands S
         → Stands (final_state constructive S events) }
+    ensures differ { (S : State Place) → Stands S → IdsDiffer S.place.control }
 {}
 
 /// No instance uses two answers in one reaction.
