@@ -11,8 +11,9 @@ use link_faults::text::text_of;
 use module_tree::source::Modules;
 use std::alloc::Global;
 
-/// The first fault of names, kinds and runs of a text, or none. Time grows with the length of the text, as far
-/// as tables of names take the expected time, and is never spent in recursion along runs.
+/// The first fault of names, kinds and runs of a text, by position and then as the kinds are listed, or none;
+/// `NoMemory` where memory runs out. Time grows with the length of the text and, for each run, with the
+/// interface of the module that is run. No recursion goes along runs.
 pub fn first_fault(alloc: Global, modules: &Modules) -> Result<Option<LinkFault>, NoMemory>
     ensures { IfOk result (IsVerdict modules.now) }
 {
