@@ -11,7 +11,7 @@ use Rattle.hh_term.specs.Pairs.{EachPair}
 use Rattle.hh_term.specs.IsProgram.{IsProgram, NamesDiffer}
 use Rattle.scenario_lines.specs.Interface.{HasNames, IsGiven, is_given}
 
-abbrev Locals : List SignalDecl → Type 0
+abbrev pub Locals : List SignalDecl → Type 0
 Locals signals = AllByRecursion (λ d. d.dir ≡ dir.Local) signals
 
 -- no signal that is given is local
@@ -26,7 +26,7 @@ no_local (x ∷ signals) zero d local at given =
 no_local (x ∷ signals) (suc s) d local at given = no_local signals s d local.1 at given
 
 -- the interface stands first
-stands_first : (n s : ℕ) (signals : List SignalDecl) (d : SignalDecl) → Locals (drop n signals)
+pub stands_first : (n s : ℕ) (signals : List SignalDecl) (d : SignalDecl) → Locals (drop n signals)
     → slice_get signals s ≡ Some d → is_given d.dir ≡ true → s < n
 stands_first zero s signals d local at given = absurd (no_local signals s d local at given)
 stands_first (suc n) s [] d local at given = absurd cc

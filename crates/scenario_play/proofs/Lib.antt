@@ -1,0 +1,4 @@
+pub mod Puts
+pub mod PlayLaws
+pub mod LineLaws
+pub mod LoopLaws
