@@ -13,6 +13,7 @@ ghost use Rattle.scenario.specs.Scenario.{inputs_of_line};
 ghost use Rattle.hiphop_main.specs.Play.{unit_output, AreGiven};
 ghost use Rattle.hiphop_main.specs.Running.{Stands, Reacts, Advances, line_text, lines_text};
 
+use first_step::step;
 use hh_base::memory::NoMemory;
 use hh_base::value::Value;
 use hh_io::fault::SinkFault;
@@ -23,7 +24,6 @@ use reactor::reply::{Done, Outputs, Reply};
 use scenario::line::Line;
 use scenario::print::print_reply;
 use std::alloc::Global;
-use first_step::step;
 
 /// The reply of an accepted reaction with these present outputs and this completion code.
 fn reply_of(alloc: Global, signals: &[u32], code: Option<u8>) -> Result<Reply, NoMemory>

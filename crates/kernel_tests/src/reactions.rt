@@ -10,6 +10,7 @@ ghost use Rattle.hh_term.specs.Statement as statement;
 ghost use Rattle.hh_term.specs.ProgramView.{kernel_of};
 ghost use Rattle.hh_term.specs.Views.{statement_of};
 
+use first_step::step;
 use hh_base::name::Name;
 use hh_base::value::{Dir, Kind, NoMemory, Pos, Value};
 use hh_term::mark::Marked;
@@ -17,7 +18,6 @@ use hh_term::program::{Program, SignalDecl};
 use hh_term::term::{Term, TermNode};
 use host_expr::expr::{Expr, ExprNode};
 use std::alloc::Global;
-use first_step::step;
 
 fn named(alloc: Global, text: &str) -> Result<Name, NoMemory>
     ensures { IfOk result (λ n. n ≡ text.now) }
