@@ -3,35 +3,9 @@
 # ratio of each time to the one before it, which is near 4 where the cost is linear. The time of reading alone is told beside it. The
 # texts are one chain of runs, one module with many signals, modules that each run all others, a chain between two cycles, and runs
 # that bind many signals.
-# The program is built in a folder that is thrown away, over what `rt check` kept in this checkout; where it kept nothing, the crates
-# are proved first, which takes long.
 set -eu
-top=$(cd "$(dirname "$0")/.." && pwd)
-work=$(mktemp -d)
-trap 'rm -rf "$work"' EXIT
-
-needs() { # NAME..: these crates of the repository and all below them
-    awk -F: -v names="$*" '{ below[$1] = $2 }
-        END {
-            count = split(names, queue, " ")
-            for (i = 1; i <= count; i++) {
-                if (queue[i] in seen || !(queue[i] in below)) continue
-                seen[queue[i]]
-                print queue[i]
-                found = split(below[queue[i]], names_below, " ")
-                for (j = 1; j <= found; j++) queue[++count] = names_below[j]
-            }
-        }' "$top/crates.txt"
-}
-mkdir -p "$work/crates/links/src"
-for crate in $(needs module_reader link_verdict); do
-    mkdir "$work/crates/$crate"
-    for folder in src specs proofs out; do
-        [ ! -d "$top/crates/$crate/$folder" ] || cp -r "$top/crates/$crate/$folder" "$work/crates/$crate"
-    done
-    grep -E "^$crate:" "$top/crates.txt" >>"$work/crates.txt"
-done
-echo 'links: hh_base module_tree module_reader link_faults link_verdict' >>"$work/crates.txt"
+. "$(dirname "$0")/common.sh"
+prepare links hh_base module_tree module_reader link_faults link_verdict
 cat >"$work/crates/links/src/main.rt" <<'R'
 //! Reads a module text from standard input, and with a word tells its first fault.
 #![tactic(auto)]
@@ -58,13 +32,7 @@ fn main(rt: HostRuntime) -> io::Result<()> {
     Ok(())
 }
 R
-(cd "$work/crates/links" && rt run </dev/null >"$work/log" 2>&1) || true
-program=$work/crates/links/out/links
-[ -x "$program" ] || {
-    cat "$work/log" >&2
-    echo "bench/linking.sh: the program could not be built" >&2
-    exit 1
-}
+build links
 
 chain() { # MB: each module runs the next
     awk -v bytes=$(($1 * 1000000)) 'BEGIN { while (n < bytes) { s = "module m" i++ "() { run m" i "(); }"; print s; n += length(s) + 1 } print "module m" i "() { }" }'
@@ -103,24 +71,7 @@ bindings() { # MB: runs of a module with a thousand signals, each of which is bo
         print "}"
     }'
 }
-measure() { # NAME WORDS
-    local before="" mb start end took name=$1
-    shift
-    for mb in 1 4 16; do
-        "$name" "$mb" >"$work/input"
-        start=$(date +%s.%N)
-        "$program" "$@" <"$work/input" >"$work/output"
-        end=$(date +%s.%N)
-        took=$(awk -v a="$start" -v b="$end" 'BEGIN { print b - a }')
-        awk -v name="$name${*:+ }$*" -v mb="$mb" -v took="$took" -v before="$before" -v found="$(cat "$work/output")" 'BEGIN {
-            printf "%s %d MB, %s: %.3f s", name, mb, found, took
-            if (before != "") printf ", %.2f times the one before", took / before
-            print ""
-        }'
-        before=$took
-    done
-}
 for text in chain signals dense cycles bindings; do
-    measure "$text"
-    measure "$text" faults
+    measure "1 4 16" "$text"
+    measure "1 4 16" "$text" faults
 done

@@ -4,35 +4,9 @@
 # - the tokens alone: of every kind, one long comment, and marks with no gap;
 # - reading, and then reading and printing: many modules, many statements, long lists (of arguments and of signals), and one fork of
 #   many blocks.
-# The program is built in a folder that is thrown away, over what `rt check` kept in this checkout; where it kept nothing, the crates
-# are proved first, which takes long.
 set -eu
-top=$(cd "$(dirname "$0")/.." && pwd)
-work=$(mktemp -d)
-trap 'rm -rf "$work"' EXIT
-
-needs() { # NAME..: these crates of the repository and all below them
-    awk -F: -v names="$*" '{ below[$1] = $2 }
-        END {
-            count = split(names, queue, " ")
-            for (i = 1; i <= count; i++) {
-                if (queue[i] in seen || !(queue[i] in below)) continue
-                seen[queue[i]]
-                print queue[i]
-                found = split(below[queue[i]], names_below, " ")
-                for (j = 1; j <= found; j++) queue[++count] = names_below[j]
-            }
-        }' "$top/crates.txt"
-}
-mkdir -p "$work/crates/reads/src"
-for crate in $(needs module_reader module_printer); do
-    mkdir "$work/crates/$crate"
-    for folder in src specs proofs out; do
-        [ ! -d "$top/crates/$crate/$folder" ] || cp -r "$top/crates/$crate/$folder" "$work/crates/$crate"
-    done
-    grep -E "^$crate:" "$top/crates.txt" >>"$work/crates.txt"
-done
-echo 'reads: hh_base module_tree module_token module_reader module_printer' >>"$work/crates.txt"
+. "$(dirname "$0")/common.sh"
+prepare reads hh_base module_tree module_token module_reader module_printer
 cat >"$work/crates/reads/src/main.rt" <<'R'
 //! Reads a module text from standard input, as far as the first word says, and tells what was found.
 #![tactic(auto)]
@@ -66,13 +40,7 @@ fn main(rt: HostRuntime) -> io::Result<()> {
     Ok(())
 }
 R
-(cd "$work/crates/reads" && rt run </dev/null >"$work/log" 2>&1) || true
-program=$work/crates/reads/out/reads
-[ -x "$program" ] || {
-    cat "$work/log" >&2
-    echo "bench/reading.sh: the program could not be built" >&2
-    exit 1
-}
+build reads
 
 mixed() { # MB: tokens of every kind, with comments
     awk -v bytes=$(($1 * 1000000)) 'BEGIN { while (n < bytes) { print "if (größe.now <= 007 && x != \"a\\n\") { emit S(1 + 2); } // é"; n += 62 } }'
@@ -95,25 +63,8 @@ lists() { # MB: a list of arguments and one of signals
 branches() { # MB: one fork with many blocks
     awk -v bytes=$(($1 * 1000000)) 'BEGIN { print "module M() { fork {}"; while (n < bytes) { print "par { pause; }"; n += 15 } print "}" }'
 }
-measure() { # NAME WORDS
-    local before="" mb start end took name=$1
-    shift
-    for mb in 1 2 4 8 16; do
-        "$name" "$mb" >"$work/input"
-        start=$(date +%s.%N)
-        "$program" "$@" <"$work/input" >"$work/output"
-        end=$(date +%s.%N)
-        took=$(awk -v a="$start" -v b="$end" 'BEGIN { print b - a }')
-        awk -v name="$name${*:+ }$*" -v mb="$mb" -v took="$took" -v before="$before" -v found="$(cat "$work/output")" 'BEGIN {
-            printf "%s %d MB, %s: %.3f s", name, mb, found, took
-            if (before != "") printf ", %.2f times the one before", took / before
-            print ""
-        }'
-        before=$took
-    done
-}
-for text in mixed comment marks; do measure "$text"; done
+for text in mixed comment marks; do measure "1 2 4 8 16" "$text"; done
 for text in modules statements lists branches; do
-    measure "$text" read
-    measure "$text" read print
+    measure "1 2 4 8 16" "$text" read
+    measure "1 2 4 8 16" "$text" read print
 done
