@@ -3,11 +3,11 @@
 
 mod blocks;
 pub mod fault;
-mod forms;
+pub mod forms;
 pub mod laws;
-mod loops;
+pub mod loops;
 pub mod measure;
 mod rows;
 pub mod sizes;
-mod terms;
+pub mod terms;
 mod weights;

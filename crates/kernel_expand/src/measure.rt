@@ -15,7 +15,10 @@ use module_tree::source::{ModuleNode, Part};
 use std::alloc::Global;
 
 /// The modules of a text, in order.
-fn modules<'a>(alloc: Global, parts: &'a [Part<u32>]) -> Result<Vec<&'a ModuleNode<u32>>, NoMemory>
+pub fn modules<'a>(
+    alloc: Global,
+    parts: &'a [Part<u32>],
+) -> Result<Vec<&'a ModuleNode<u32>>, NoMemory>
     ensures { IfOk result (λ v. map (λ (m : Bor (AModule ℕ)). m.now) v.items ≡ modules_of parts.now) }
 {
     let mut modules = Vec::new(alloc);
