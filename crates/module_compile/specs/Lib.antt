@@ -1,0 +1,2 @@
+pub mod FaultForms
+pub mod Compiling
