@@ -1,5 +1,6 @@
 pub mod LineLaws
 pub mod Puts
-pub mod Running
+pub mod LinesFit
 pub mod Scripts
 pub mod Plays
+pub mod Starts

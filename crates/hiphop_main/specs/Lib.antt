@@ -4,5 +4,6 @@ pub mod Status
 pub mod Ends
 pub mod Exchange
 pub mod Play
-pub mod Running
+pub mod Scripts
+pub mod Readiness
 pub mod Obeys

@@ -1,6 +1,7 @@
 -- What a call of `hiphop` owes for its words: the promise of the program. Each command has its words, a line of `Obeys`, and a
 -- record of its own for what it does. (This project's own.)
 use Rattle.std.specs.Prelude.{◌≡◌, ℕ, List, [], ◌∷◌, codes}
+use Rattle.host_hooks.specs.Promise.{Promise}
 use Rattle.hiphop_main.specs.declared.ending.Cause.{Cause}
 use Rattle.hiphop_main.specs.declared.ending.Cause.TheVariants.{Usage}
 use Rattle.hiphop_main.specs.Ends.{Ends}
@@ -21,9 +22,9 @@ pub record SaysUsage (x : Exchange) (cause : Cause) : Type 0 where
   pub line : Ends Usage (refusal_line Usage) x.sink_before x.sink_after cause
   pub unread : x.source_after ≡ x.source_before
 
--- a call does what its words ask for
-pub data Obeys (words : List (List ℕ)) (x : Exchange) (cause : Cause) : Type 0 where
+-- a call does what its words ask for, where these hooks are stored
+pub data Obeys (hooks : List Promise) (words : List (List ℕ)) (x : Exchange) (cause : Cause) : Type 0 where
   -- `play` plays the module and the scenario of the source
-  plays : IsPlay words → Plays x cause → Obeys words x cause
+  plays : IsPlay words → Plays hooks x cause → Obeys hooks words x cause
   -- words that are no command are answered by the usage line
-  says_usage : ¬ IsCommand words → SaysUsage x cause → Obeys words x cause
+  says_usage : ¬ IsCommand words → SaysUsage x cause → Obeys hooks words x cause

@@ -3,13 +3,7 @@
 ghost use Rattle.std.specs.Prelude.{◌≡◌};
 
 use hh_base::value::Pos;
-
-/// Why a module text is refused.
-#[derive(Clone, Copy, PartialEq, Eq, Debug)]
-pub enum ModuleKind {
-    /// The input is none of the first language, the part of the language that is built so far.
-    NotBuilt,
-}
+use module_compile::fault::ModuleFault;
 
 /// Why a command ended as it did.
 #[derive(Clone, Copy, PartialEq, Eq, Debug)]
@@ -20,8 +14,12 @@ pub enum Cause {
     ReadFault,
     /// The words are no command.
     Usage,
-    /// The module was refused at a position, for a kind, with the number that passed a limit, or 0.
-    Module(Pos, ModuleKind, u64),
+    /// The module text was refused.
+    Module(ModuleFault),
+    /// The host stores no hook for the body that is declared at this position.
+    NoHook(Pos),
+    /// This line of the scenario was refused, counted from 1.
+    Scenario(u64),
     /// Memory ran out.
     NoMemory,
     /// A write failed.
@@ -41,7 +39,8 @@ impl Cause {
             Cause::Fine => 0,
             Cause::ReadFault => 1,
             Cause::Usage => 2,
-            Cause::Module(..) => 3,
+            Cause::Module(_) | Cause::NoHook(_) => 3,
+            Cause::Scenario(_) => 4,
             Cause::NoMemory => 5,
             Cause::WriteFault => 6,
             Cause::TooLong => 8,

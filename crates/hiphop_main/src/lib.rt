@@ -1,11 +1,12 @@
 //! The commands of `hiphop`.
 #![tactic(auto)]
 
+mod bodies;
 pub mod command;
 pub mod ending;
 pub mod limits;
 pub mod play;
+mod ready;
 mod refusal;
-mod run;
 mod script;
 mod split;

@@ -5,11 +5,24 @@ ghost use Rattle.std.specs.String.{string_bytes};
 ghost use Rattle.hiphop_main.specs.Ends.{Ends};
 ghost use Rattle.hiphop_main.specs.Status as spec;
 
-use crate::ending::{Cause, ModuleKind};
+use crate::ending::Cause;
 use hh_base::memory::NoMemory;
 use hh_io::fault::SinkFault;
 use hh_io::sink::{Sink, put_all};
+use module_compile::fault::ModuleFault;
 use std::alloc::Global;
+
+/// The line of a refused module text.
+fn module_line(alloc: Global, fault: ModuleFault) -> Result<String, NoMemory>
+    ensures { IfOk result (λ t. string_bytes t ≡ spec.refusal_line (Cause.Module fault)) }
+{
+    let at = fault.place();
+    let word = fault.word();
+    Ok(match fault.number() {
+        Some(number) => format!(in alloc; "! module {at} {word} {number}\n")?,
+        None => format!(in alloc; "! module {at} {word}\n")?,
+    })
+}
 
 /// The line that a refusal writes, with its LF; nothing for the causes that refuse nothing.
 fn refusal_line(alloc: Global, cause: Cause) -> Result<String, NoMemory>
@@ -20,23 +33,16 @@ fn refusal_line(alloc: Global, cause: Cause) -> Result<String, NoMemory>
             alloc,
             "! usage: hiphop play, compile, play_net, serve [--workers N], gen --seed N --size N\n",
         )?,
-        Cause::Module(pos, kind, _) => {
+        Cause::Module(fault) => module_line(alloc, fault)?,
+        Cause::NoHook(pos) => {
             let at = pos.0;
-            let word = kind_word(kind);
-            format!(in alloc; "! module {at} {word}\n")?
+            format!(in alloc; "! module {at} NoHook\n")?
         }
+        Cause::Scenario(line) => format!(in alloc; "! scenario {line}\n")?,
         Cause::TooLong => String::from_str(alloc, "! input TooLong\n")?,
         Cause::Fine | Cause::ReadFault | Cause::NoMemory | Cause::WriteFault => String::new(alloc),
     };
     Ok(text)
-}
-
-fn kind_word(kind: ModuleKind) -> &'static str
-    ensures { result.now ≡ spec.kind_word kind }
-{
-    match kind {
-        ModuleKind::NotBuilt => "NotBuilt",
-    }
 }
 
 /// Writes the line of a refusal, and answers how that ended: by the cause itself where the line is whole.

@@ -8,6 +8,7 @@ ghost use Rattle.hiphop_main.specs.Split as spec;
 pub fn split(input: &[u8]) -> (&[u8], &[u8])
     ensures modules { result.0.now ≡ spec.module_text input.now }
     ensures scenario { result.1.now ≡ spec.scenario_text input.now }
+    ensures front { length result.0.now ≤ length input.now }
     ensures within { length result.1.now ≤ length input.now }
 {
     let mut rest = input;

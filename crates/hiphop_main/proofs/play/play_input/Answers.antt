@@ -1,15 +1,19 @@
-use Rattle.std.proofs.Common.{map, refl}
+use Rattle.host_hooks.specs.Stored.{promises_of}
 use Rattle.hh_term.specs.ProgramView.{kernel_of}
-use Rattle.scenario.specs.Scenario.{inputs_of_line}
-use Rattle.hiphop_main.specs.Play.{refused, accepted, answered, unanswered}
-use Rattle.hiphop_main.proofs.Plays.{log_text}
+use Rattle.scenario_lines.specs.declared.line.Mode.TheVariants.{Play}
+use Rattle.hiphop_main.specs.Split.{scenario_text}
+use Rattle.hiphop_main.proofs.LinesFit.{scenario_fits}
+use Rattle.hiphop_main.proofs.Scripts.{script_played}
 use Rattle.hiphop_main.proofs.play.play_input.Goals as goal
 
-pub returns-in-Err-NotBuilt : goal.returns-in-Err-NotBuilt
-returns-in-Err-NotBuilt g c = answered (refused (c.in-Err-NotBuilt.ensures.not_built (rw c.in-Err-NotBuilt.field-0-is refl))) c.refuse.ensures
+pub play_script-requires-clause-covered : goal.play_script-requires-clause-covered
+play_script-requires-clause-covered g c = c.in-Ok.ensures.found.covered
 
-pub returns-in-Err-NoMemory : goal.returns-in-Err-NoMemory
-returns-in-Err-NoMemory g c = unanswered refl
+pub play_script-requires-clause-fit : goal.play_script-requires-clause-fit
+play_script-requires-clause-fit g c =
+    scenario_fits (kernel_of c.in-Ok.script.program) Play (scenario_text c.args.input.now) c.in-Ok.script.lines.items c.in-Ok.script.program.rules c.in-Ok.ensures.found.scenario
 
 pub returns-in-Ok : goal.returns-in-Ok
-returns-in-Ok g c = answered (accepted (log_text c.args.input.now (kernel_of c.in-Ok.script.program) (map inputs_of_line c.in-Ok.script.lines.items) c.in-Ok.ensures.found)) c.play_script.ensures
+returns-in-Ok g c =
+    script_played (promises_of c.args.hooks.now) c.args.input.now c.in-Ok.script.program c.in-Ok.script.lines.items (g.K.Sink.state c.args.sink.now) (g.K.Sink.state c.play_script.new.sink)
+    c.play_script.result c.in-Ok.ensures.found c.play_script.ensures

@@ -1,23 +1,33 @@
-use Rattle.std.proofs.Common.{◌≡◌, ◌∙◌, ap, sym, subst, refl, arith, length, map}
-use Rattle.std.proofs.lemmas.List.{length-map}
+use Rattle.std.proofs.Common.{subst, arith, Err}
+use Rattle.std.proofs.lemmas.Result.{err_from_is_err_and}
 use Rattle.hh_term.specs.ProgramView.{kernel_of}
-use Rattle.scenario.specs.Scenario.{inputs_of_line}
-use Rattle.hiphop_main.proofs.Scripts.{only_input, no_module, no_scenario, lines_given, few_lines}
+use Rattle.host_hooks.specs.Stored.{promises_of}
+use Rattle.module_compile.specs.Compiling.{CompilesTo}
+use Rattle.hiphop_main.specs.Scripts.{Compiled, Lined}
+use Rattle.hiphop_main.proofs.Scripts.{module_refused, hook_refused, line_refused}
 use Rattle.hiphop_main.proofs.script.read_script.Goals as goal
 
-pub returns-in-Err-NotBuilt-clause-not_built : goal.returns-in-Err-NotBuilt-clause-not_built
-returns-in-Err-NotBuilt-clause-not_built c = λ _. no_module c.args.input.now c.split.result.0.now c.split.ensures.modules (c.in-Err-NotBuilt.ensures.not_built (rw c.in-Err-NotBuilt.field-0-is refl))
+pub compile_module-requires : goal.compile_module-requires
+compile_module-requires g c = let few = c.requires in let front = c.split.ensures.front in omega arith
 
-pub returns-in-Err-Refused-clause-not_built : goal.returns-in-Err-Refused-clause-not_built
-returns-in-Err-Refused-clause-not_built c =
-    λ _. no_scenario c.args.input.now (kernel_of c.in-Ok.program) c.split.result.0.now c.split.result.1.now c.named_signals.result.now c.split.ensures.modules c.split.ensures.scenario c.named_signals.ensures.signals c.in-Ok.ensures.only
-    (λ others h. let read = c.in-Err-Refused.ensures.only others h in let e = c.in-Err-Refused.field-0-is in cc)
+pub returns-in_err-program-clause-refused : goal.returns-in_err-program-clause-refused
+returns-in_err-program-clause-refused g c =
+    let p = err_from_is_err_and c.from_residual.result c.from_residual.ensures.1 in
+    rw (p.1, p.2)
+    (module_refused (promises_of c.args.hooks.now) c.args.input.now c.in_err-program.field-0.0
+    (subst (λ t. Compiled t (Err c.in_err-program.field-0.0)) c.split.ensures.modules c.in_err-program.ensures))
 
-pub returns-clause-found : goal.returns-clause-found
-returns-clause-found c =
-    only_input c.args.input.now (kernel_of c.in-Ok.program) (map inputs_of_line c.in-Ok-read_scenario.lines.items) c.split.result.0.now c.split.result.1.now c.named_signals.result.now c.split.ensures.modules
-    c.split.ensures.scenario c.named_signals.ensures.signals c.in-Ok.ensures.found c.in-Ok.ensures.only c.in-Ok-read_scenario.ensures.found c.in-Ok-read_scenario.ensures.only
+pub returns-in_err-check_hooks-clause-refused : goal.returns-in_err-check_hooks-clause-refused
+returns-in_err-check_hooks-clause-refused g c =
+    let p = err_from_is_err_and c.from_residual-in_err-check_hooks.result c.from_residual-in_err-check_hooks.ensures.1 in
+    rw (p.1, p.2)
+    (hook_refused (promises_of c.args.hooks.now) c.args.input.now c.in_ok-program.program c.in_err-check_hooks.field-0.0
+    (subst (λ t. CompilesTo t c.in_ok-program.program) c.split.ensures.modules c.in_ok-program.ensures) c.in_err-check_hooks.ensures)
 
-pub returns-clause-given : goal.returns-clause-given
-returns-clause-given c =
-    lines_given (kernel_of c.in-Ok.program) c.named_signals.result.now c.split.result.1.now (map inputs_of_line c.in-Ok-read_scenario.lines.items) c.named_signals.ensures.signals c.in-Ok-read_scenario.ensures.found
+pub returns-in_err-lines-clause-refused : goal.returns-in_err-lines-clause-refused
+returns-in_err-lines-clause-refused g c =
+    let p = err_from_is_err_and c.from_residual-in_err-lines.result c.from_residual-in_err-lines.ensures.1 in
+    rw (p.1, p.2)
+    (line_refused (promises_of c.args.hooks.now) c.args.input.now c.in_ok-program.program c.in_err-lines.field-0.0
+    (subst (λ t. CompilesTo t c.in_ok-program.program) c.split.ensures.modules c.in_ok-program.ensures) c.in_ok-check_hooks.ensures
+    (subst (λ t. Lined (kernel_of c.in_ok-program.program).signals t (Err c.in_err-lines.field-0.0)) c.split.ensures.scenario c.in_err-lines.ensures.lines))

@@ -1,4 +1,0 @@
-pub mod Walk
-pub mod Walking
-pub mod Steps
-pub mod Running

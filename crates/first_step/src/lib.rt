@@ -1,8 +1,0 @@
-//! Reactions of programs of the first language.
-#![tactic(auto)]
-
-mod flags;
-mod reaction;
-mod walk;
-
-pub use reaction::{Stepped, step};

@@ -1,0 +1,7 @@
+use Rattle.scenario_lines.specs.declared.line.Mode.TheVariants.{Play}
+use Rattle.hiphop_main.proofs.LinesFit.{few_lines}
+use Rattle.hiphop_main.proofs.script.read_lines.Goals as goal
+
+pub returns-in-Ok-clause-few : goal.returns-in-Ok-clause-few
+returns-in-Ok-clause-few c =
+    few_lines c.named_signals.result.now Play c.args.text.now c.in-Ok.lines.items c.in-Ok.ensures.found

@@ -1,5 +1,0 @@
-use Rattle.scenario.specs.Index.{IsIndexBelow}
-use Rattle.scenario.proofs.interface.number_names.Given as goal
-
-abbrev pub invariant-loop-number : goal.invariant-loop-number
-invariant-loop-number l = IsIndexBelow l.signals l.numbers l.number
