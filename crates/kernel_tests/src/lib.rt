@@ -1,4 +1,4 @@
-//! Tests of the calls that play a program: expressions, combinations, reactions, sizes of expansions, and the texts of the first language.
+//! Tests of parts of the kernel: expressions, combinations of emissions, and sizes of expansions.
 #![tactic(auto)]
 
 #[cfg(test)]
@@ -7,9 +7,3 @@ mod combinations;
 mod expansion_sizes;
 #[cfg(test)]
 mod expressions;
-#[cfg(test)]
-mod first_texts;
-#[cfg(test)]
-mod reactions;
-#[cfg(test)]
-mod scenario_lines;

@@ -3,3 +3,5 @@
 
 #[cfg(test)]
 mod first_faults;
+#[cfg(test)]
+mod places;

@@ -1,10 +1,10 @@
 //! Whole calls, with expected texts worked out by hand.
 
-use crate::hiphop_in_memory;
 use hh_base::command_line::CommandLine;
 use hh_io::memory::{MemSink, MemSource};
 use hiphop_main::command::hiphop;
 use hiphop_main::ending::Cause;
+use host_hooks::table::HookTable;
 use std::alloc::Global;
 use std::process::Abort;
 use std::test::Fail;
@@ -37,7 +37,8 @@ fn call(
         most,
     );
     let mut sink = MemSink::in_steps(alloc, Vec::from_slice(alloc, write_fails)?, most);
-    let cause = hiphop(alloc, &words, &mut source, &mut sink);
+    let hooks = HookTable::new(alloc);
+    let cause = hiphop(alloc, &words, &hooks, &mut source, &mut sink);
     Ok(Played {
         cause,
         text: sink.into_bytes(),
@@ -70,20 +71,30 @@ fn plays_scenarios(rt: HostRuntime) -> Result<(), Fail> {
         ("module M(out O) {}", 0, ""),
         ("module M() {}\r\n%% scenario\r\nreact", 0, "1: done\n"),
         (
-            "module M(out O) { loop { emit O; pause; } }",
+            "module M() {}\n%% scenario\r",
             3,
-            "! module 0 NotBuilt\n",
+            "! module 14 Unexpected\n",
         ),
-        ("", 3, "! module 0 NotBuilt\n"),
+        (
+            "module M() {}\n %% scenario\nreact",
+            3,
+            "! module 15 Unexpected\n",
+        ),
+        ("", 3, "! module 0 NoModule\n"),
+        (
+            "host text_size(text): int;\nmodule M() {}",
+            3,
+            "! module 0 NoHook\n",
+        ),
         (
             "module M(in A) {}\n%% scenario\nreact A A\n",
-            3,
-            "! module 0 NotBuilt\n",
+            4,
+            "! scenario 1\n",
         ),
         (
             "module M(in A) {}\n%% scenario\nreact\n%% scenario\n",
-            3,
-            "! module 0 NotBuilt\n",
+            4,
+            "! scenario 2\n",
         ),
     ];
     for (input, status, text) in table {
@@ -135,26 +146,11 @@ fn tells_faults_at_the_first_call(rt: HostRuntime) -> Result<(), Fail> {
 
 #[test]
 fn refuses_what_is_too_long(rt: HostRuntime) -> Result<(), Fail> {
-    for (byte, size, status) in [
-        (b' ', 16_777_216, 3),
-        (b'{', 16_777_216, 3),
-        (b' ', 16_777_217, 8),
-    ] {
+    for (byte, size, status) in [(b' ', 16_777_216, 3), (b' ', 16_777_217, 8)] {
         let input = vec![in rt.alloc(); byte; size]?;
         let played = call(rt.alloc(), "play", &input, 1_000_000, &[], &[])?;
         assert_eq!(rt; played.cause.status(), status);
     }
-    Ok(())
-}
-
-#[test]
-fn plays_in_memory(rt: HostRuntime) -> Result<(), Fail> {
-    let mut words = CommandLine::new(rt.alloc());
-    words.push(rt.alloc(), "play")?;
-    let input = Vec::from_slice(rt.alloc(), PAUSE.as_bytes())?;
-    let played = hiphop_in_memory(rt.alloc(), &words, input);
-    assert_eq!(rt; played.cause.status(), 0);
-    assert_eq!(rt; played.text.as_slice(), b"1:\n2: O done\n3:\n".as_slice());
     Ok(())
 }
 
@@ -187,49 +183,124 @@ fn repeated(
     Ok(text)
 }
 
-const REFUSED: &str = "! module 0 NotBuilt\n";
+/// Texts at a limit and one past it: what stands before, so many copies of a piece, what stands inside, as many
+/// copies of what closes a piece, and what is written.
+const LIMITS: [(&str, &str, usize, &str, &str, &str); 14] = [
+    ("module M() {", "pause;", 32768, "}", "", "1:\n"),
+    (
+        "module M() {",
+        "pause;",
+        32769,
+        "}",
+        "",
+        "! module 0 TooLarge 65537\n",
+    ),
+    ("module ", "n", 255, "() {}", "", "1: done\n"),
+    ("module ", "n", 256, "() {}", "", "! module 7 NameLong\n"),
+    ("module M() ", "{", 128, "", "}", "1: done\n"),
+    (
+        "module M() ",
+        "{",
+        129,
+        "",
+        "}",
+        "! module 139 DeepNesting\n",
+    ),
+    ("module M() {", "trap T {", 32, "}", "}", "1: done\n"),
+    (
+        "module M() {",
+        "trap T {",
+        33,
+        "}",
+        "}",
+        "! module 0 TrapsDeep 33\n",
+    ),
+    ("module M() {", "loop {", 18, "pause; }", "}", "1:\n"),
+    (
+        "module M() {",
+        "loop {",
+        19,
+        "pause; }",
+        "}",
+        "! module 0 CopyLarge 1572862\n",
+    ),
+    (
+        "body f(): int { 1 } module M() {",
+        "async call f();",
+        1025,
+        "}",
+        "",
+        "! module 0 ManyAsyncs 1025\n",
+    ),
+    (
+        "module M() { if (true",
+        " && true",
+        511,
+        ") {} }",
+        "",
+        "1: done\n",
+    ),
+    (
+        "module M() { if (true",
+        " && true",
+        512,
+        ") {} }",
+        "",
+        "! module 4113 ExprLarge\n",
+    ),
+    (
+        "module M() { if (\"",
+        "a",
+        4097,
+        "\" == \"\") {} }",
+        "",
+        "! module 17 TextLong\n",
+    ),
+];
 
-// Each at its edge, and one past it.
 #[test]
 fn keeps_its_limits(rt: HostRuntime) -> Result<(), Fail> {
-    let react = "}\n%% scenario\nreact";
-    let table = [
-        ("module M() {", "pause;", 32768, react, "1:\n"),
-        ("module M() {", "pause;", 32769, react, REFUSED),
-        (
-            "module ",
-            "n",
-            255,
-            "() {}\n%% scenario\nreact",
-            "1: done\n",
-        ),
-        ("module ", "n", 256, "() {}\n%% scenario\nreact", REFUSED),
-    ];
-    for (before, piece, count, after, text) in table {
-        let input = repeated(rt.alloc(), before, piece, count, after)?;
+    for (before, piece, count, inside, close, want) in LIMITS {
+        let opened = repeated(rt.alloc(), before, piece, count, inside)?;
+        let input = repeated(
+            rt.alloc(),
+            opened.as_str(),
+            close,
+            count,
+            "\n%% scenario\nreact",
+        )?;
         let played = call(rt.alloc(), "play", input.as_bytes(), 1_000_000, &[], &[])?;
         assert_eq!(rt;
             played.text.as_slice(),
-            text.as_bytes(),
+            want.as_bytes(),
             "{before}{piece} {count}"
         );
     }
     Ok(())
 }
 
+/// A chain of so many modules, which each nest 64 tests and then run the next one.
+fn chained(alloc: Global, modules: u8) -> Result<String, Fail> {
+    let mut text = String::new(alloc);
+    for place in 0..modules {
+        let next = u32::from(place) + 1;
+        let begun = format!(in alloc; "module N{place}() {{")?;
+        let runs = format!(in alloc; "run N{next}();}}")?;
+        let nested = repeated(alloc, begun.as_str(), "if (true) {", 64, runs.as_str())?;
+        let closed = repeated(alloc, nested.as_str(), "}", 64, "\n")?;
+        text.push_str(closed.as_str())?;
+    }
+    let last = format!(in alloc; "module N{modules}() {{}}\n%% scenario\nreact")?;
+    text.push_str(last.as_str())?;
+    Ok(text)
+}
+
 #[test]
-fn nests_at_most_128_brackets(rt: HostRuntime) -> Result<(), Fail> {
-    for (depth, text) in [(127, "1: done\n"), (128, REFUSED)] {
-        let input = repeated(rt.alloc(), "module M(in A) {", "if (A.now) {", depth, "")?;
-        let input = repeated(
-            rt.alloc(),
-            input.as_str(),
-            "}",
-            depth + 1,
-            "\n%% scenario\nreact",
-        )?;
+fn counts_heights_through_runs(rt: HostRuntime) -> Result<(), Fail> {
+    for (modules, want) in [(2, "1: done\n"), (16, "! module 0 TooDeep 1025\n")] {
+        let input = chained(rt.alloc(), modules)?;
         let played = call(rt.alloc(), "play", input.as_bytes(), 1_000_000, &[], &[])?;
-        assert_eq!(rt; played.text.as_slice(), text.as_bytes(), "{depth}");
+        assert_eq!(rt; played.text.as_slice(), want.as_bytes());
     }
     Ok(())
 }
@@ -240,44 +311,14 @@ fn plays_a_long_scenario(rt: HostRuntime) -> Result<(), Fail> {
         rt.alloc(),
         "module M() {}\n%% scenario\n",
         "react\n",
-        100_000,
+        10_000,
         "",
     )?;
     let played = call(rt.alloc(), "play", input.as_bytes(), 1_000_000, &[], &[])?;
     assert_eq!(rt; played.cause.status(), 0);
     assert_eq!(rt;
         played.text.len(),
-        9 * 3 + 90 * 4 + 900 * 5 + 9_000 * 6 + 90_000 * 7 + 8 + 5
+        9 * 3 + 90 * 4 + 900 * 5 + 9_000 * 6 + 7 + 5
     );
-    Ok(())
-}
-
-#[test]
-fn refuses_what_is_no_input(rt: HostRuntime) -> Result<(), Fail> {
-    let table = [
-        "module pause() {}",
-        "module M(in A, out A) {}",
-        "module M(in A) { emit A; }",
-        "module M(out O) { if (O.now) {} }",
-        "module M() { emit X; }",
-        "module M(in A,) {}",
-        "module M() { pause }",
-        "module M() {} module N() {}",
-        "module M() { // no comments yet\n}",
-        "module M(in \u{e9}) {}",
-        "module M() {\0}",
-        "module M(in A) {}\n%% scenario\nreact\r\n",
-        "module M(in A) {}\n%% scenario\n\nreact",
-        "module M(in A) {}\n%% scenario\nreact  A",
-        "module M(in A) {}\n%% scenario\nreact A ",
-        "module M(in A) {}\n%% scenario\nreactA",
-        "module M(in A, out O) {}\n%% scenario\nreact O",
-        "module M() {}\n%% scenario\r",
-        "module M() {}\n%% scenario\n%% scenario",
-        "module M() {}\n %% scenario\nreact",
-    ];
-    for input in table {
-        check(&rt, rt.alloc(), input, 3, REFUSED)?;
-    }
     Ok(())
 }
