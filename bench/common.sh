@@ -57,3 +57,44 @@ measure() { # SIZES NAME WORDS: times the program on the text NAME of so many MB
         before=$took
     done
 }
+use_play() { # the program of this repository, built where that is needed
+    "$top/tools/hiphop" play </dev/null >/dev/null || true
+    program=$top/crates/hiphop/out/hiphop
+}
+run_play() { # plays $work/input: tells the seconds and the peak memory in bytes
+    python3 - "$program" "$work/input" "$work/output" <<'P'
+import resource, subprocess, sys
+subprocess.run([sys.argv[1], "play"], stdin=open(sys.argv[2]), stdout=open(sys.argv[3], "w"))
+used = resource.getrusage(resource.RUSAGE_CHILDREN)
+print(used.ru_utime + used.ru_stime, used.ru_maxrss * 1024)
+P
+}
+measure_play() { # UNIT SIZES NAME: times `play` on the input NAME of each of these sizes
+    local before="" size took peak unit=$1 sizes=$2 name=$3
+    for size in $sizes; do
+        "$name" "$size" >"$work/input"
+        read -r took peak < <(run_play)
+        awk -v name="$name" -v size="$size $unit" -v took="$took" -v before="$before" -v peak="$peak" \
+            -v bytes="$(stat -c %s "$work/input")" -v lines="$(wc -l <"$work/output")" \
+            -v first="$(head -n 1 "$work/output" | cut -c 1-40)" 'BEGIN {
+            printf "%s %s, %d lines (%s ..): %.3f s", name, size, lines, first, took
+            if (before != "") printf ", %.2f times the one before", took / before
+            printf ", %.1f bytes of memory for each byte of input\n", peak / bytes
+        }'
+        before=$took
+    done
+}
+generated() { # BRANCHES: a fork of so many loops, repetitions and counted aborts, by a sequence of numbers, and 100 reactions
+    python3 - "$1" <<'P'
+import sys
+branches = ["loop { emit N(1); pause; }", "every (A.now) { emit N(2); }", "abort count(3, A.now) { sustain N(3); }"]
+x = 0
+print("module Gen(in A, out N: int combine plus) {")
+for i in range(int(sys.argv[1])):
+    x = (x * 6364136223846793005 + 1442695040888963407) % 2**64
+    print("fork" if i == 0 else "par", "{", branches[(x >> 33) % 3], "}")
+print("}\n%% scenario")
+for i in range(50):
+    print("react\nreact A")
+P
+}

@@ -1,38 +1,11 @@
 #!/usr/bin/env bash
-# Times a program that reads a text of 1, 4 and 16 MB from its input and tells its first fault of names, kinds and runs, and prints the
-# ratio of each time to the one before it, which is near 4 where the cost is linear. The time of reading alone is told beside it. The
-# texts are one chain of runs, one module with many signals, modules that each run all others, a chain between two cycles, and runs
-# that bind many signals.
+# Times the linking of names, kinds and runs: `hiphop play` on texts of 1, 4 and 16 MB, with the ratio of each time to the one before it, which
+# is near 4 where the cost is linear. The texts are one chain of runs, one module with many signals, modules that each run all others, a
+# chain between two cycles, runs that bind many signals, and nested scopes that each hide all names. All are read and linked whole; then the first of two cycles is refused, and
+# the others are refused by what they expand to, without being written out.
 set -eu
 . "$(dirname "$0")/common.sh"
-prepare links hh_base module_tree module_reader link_faults link_verdict
-cat >"$work/crates/links/src/main.rt" <<'R'
-//! Reads a module text from standard input, and with a word tells its first fault.
-#![tactic(auto)]
-
-use link_verdict::first::first_fault;
-use module_reader::read::read;
-use std::{env, io};
-
-fn main(rt: HostRuntime) -> io::Result<()> {
-    let text = io::read_to_string(rt.alloc(), rt.reader())?;
-    if text.len() > 100_000_000 {
-        return Ok(());
-    }
-    let words = env::args(&rt)?.len();
-    match read(rt.alloc(), text.as_str()) {
-        Err(fault) => println!(rt; "{fault}")?,
-        Ok(modules) if words == 1 => println!(rt; "{} declarations", modules.parts().len())?,
-        Ok(modules) => match first_fault(rt.alloc(), &modules) {
-            Err(_) => println!(rt; "want of memory")?,
-            Ok(None) => println!(rt; "no fault")?,
-            Ok(Some(fault)) => println!(rt; "{fault}")?,
-        },
-    }
-    Ok(())
-}
-R
-build links
+use_play
 
 chain() { # MB: each module runs the next
     awk -v bytes=$(($1 * 1000000)) 'BEGIN { while (n < bytes) { s = "module m" i++ "() { run m" i "(); }"; print s; n += length(s) + 1 } print "module m" i "() { }" }'
@@ -48,7 +21,7 @@ signals() { # MB: one module with many signals, each of which is emitted
 }
 dense() { # MB: each module runs all behind it
     awk -v bytes=$(($1 * 1000000)) 'BEGIN {
-        count = int(sqrt(bytes / 6))
+        count = int(sqrt(bytes / 7))
         for (i = 0; i < count; i++) {
             print "module m" i "() {"
             for (j = i + 1; j < count; j++) print "run m" j "();"
@@ -71,7 +44,15 @@ bindings() { # MB: runs of a module with a thousand signals, each of which is bo
         print "}"
     }'
 }
-for text in chain signals dense cycles bindings; do
-    measure "1 4 16" "$text"
-    measure "1 4 16" "$text" faults
-done
+scopes() { # MB: 120 nested lists of signals, each with all names of the ones around it
+    awk -v bytes=$(($1 * 1000000)) 'BEGIN {
+        count = int(bytes / 120 / 10)
+        for (i = 0; i < count; i++) names = names (i ? ", " : "") "s" i
+        print "module M() {"
+        for (i = 0; i < 120; i++) print "signal " names " {"
+        print "emit s0;"
+        for (i = 0; i < 120; i++) printf "}"
+        print "}"
+    }'
+}
+for text in chain signals dense cycles bindings scopes; do measure_play MB "1 4 16" "$text"; done
