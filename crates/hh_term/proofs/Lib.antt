@@ -9,10 +9,7 @@ pub mod Standstill
 pub mod Interface
 pub mod Stepping
 pub mod StaticCodes
-pub mod FirstStatements
-pub mod FirstPrograms
 pub mod FlagSets
-pub mod ExamplePrograms
 pub mod Runs
 pub mod Rows
 pub mod AsyncRows

@@ -12,7 +12,6 @@ pub mod Step
 pub mod Reaction
 pub mod Knows
 pub mod Lawful
-pub mod FirstLanguage
 pub mod Pairs
 pub mod Sizes
 pub mod Scopes

@@ -8,4 +8,6 @@ pub mod Unwalked
 pub mod Programs
 pub mod Beginning
 pub mod Asking
+pub mod Parts
+pub mod Resuming
 pub mod Weight

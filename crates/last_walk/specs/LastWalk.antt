@@ -1,6 +1,6 @@
 -- How the values of the code stand for the last walk over a statement, in which all is decided that it meets.
 -- (This project's own.)
-use Rattle.std.specs.Prelude.{◌≡◌, ℕ, ◌+◌, ◌*◌, Bool, false, cond, ◌==◌, min, max, Option, Some, None, List, []}
+use Rattle.std.specs.Prelude.{◌≡◌, ℕ, ◌+◌, ◌*◌, Bool, true, false, cond, ◌==◌, ◌&&◌, ◌<◌, ◌≤◌, min, max, Option, Some, None, List, []}
 use Rattle.std.specs.Prelude.{◌∷◌, ◌++◌, ℤ, ◌+ℤ◌, length, map, take, drop, slice_get, slice_set}
 use Rattle.hh_base.specs.declared.value.Pos.{Pos}
 use Rattle.hh_base.specs.declared.value.Kind.{Kind}
@@ -10,7 +10,7 @@ use Rattle.host_expr.specs.declared.cell.Cell.{Cell}
 use Rattle.host_expr.specs.declared.cell.Cell.TheVariants as cell
 use Rattle.host_expr.specs.declared.cell.SigCell.{SigCell}
 use Rattle.host_expr.specs.Combination.{counts_as, numbers_in, whole_sum}
-use Rattle.host_expr.specs.Environment.{env_of}
+use Rattle.host_expr.specs.Environment.{env_of, is_decided, is_known}
 use Rattle.host_expr.specs.Evaluation.{truth}
 use Rattle.hh_term.specs.declared.mark.Mark.{Mark}
 use Rattle.hh_term.specs.Statement.{Statement}
@@ -19,9 +19,11 @@ use Rattle.hh_term.specs.Views.{selection_of}
 use Rattle.hh_term.specs.MustCan.{Table, Bag, cells_of, lower}
 use Rattle.hh_term.specs.Reaction.{fault_rank}
 use Rattle.hh_term.specs.Step.{Stepped, rests, mark_map, both_marks, doubled_by, overflow_by}
+use Rattle.hh_term.specs.Step.{scope_mark, wrap}
 use Rattle.hh_term.specs.Touches.{Touch, stopped, held_mark, held_touches}
 use Rattle.status_table.specs.Flat.{Cells}
 use Rattle.status_table.specs.FlatStep.{flat_step}
+use Rattle.status_table.specs.Walking.{Fits}
 use Rattle.last_walk.specs.declared.touch.Touch.{Touch as ATouch}
 use Rattle.last_walk.specs.declared.last_pass.Emitted.{Emitted}
 use Rattle.last_walk.specs.declared.last_pass.LastPass.{LastPass}
@@ -224,3 +226,31 @@ pub record Left (T : Table) (s : ℕ) (outer : Outer) (cell : SigCell) (before a
   pub emissions : slice_get before.emitted.items s ≡ Some inner
   pub touches : after.touches.items ≡ before.touches.items
   pub judged : Judged T s inner before after
+
+-- ---- a part of a statement, and the scope of a local signal
+
+-- what a walk over a statement asks for
+pub record Asks (levels signals d : ℕ) (p : Statement) (pass : LastPass) : Type 0 where
+  pub fits : Fits (length pass.cells.signals.items) levels d p
+  pub emitted : length pass.emitted.items ≡ length pass.cells.signals.items
+  pub args : pass.cells.args.items ≡ []
+  pub declared : length pass.cells.signals.items ≤ signals
+  pub depth : d < levels
+
+-- a walk over the only part that runs: its mark is in that of the whole
+abbrev pub WalkedIn : Part → Table → Cells → Statement → ℕ → ℕ → Task → Option Completion → LastPass → LastPass → Type 0
+WalkedIn part T τ p d l t end before after =
+    Did T (wrap (in_part part) (flat_step T τ p d l t (env_of before.cells.signals.items))) end before after
+
+-- a scope is entered where the cell of its signal is decided and known
+abbrev pub MayEnter : ℕ → SigCell → Option Outer → LastPass → LastPass → Type 0
+MayEnter s c (Some outer) before after =
+    ((is_decided c.status && is_known c.value) ≡ true) × Entered s c outer before after
+MayEnter s c None before after = (is_decided c.status && is_known c.value) ≡ false
+
+-- a scope was left, and completes as its body did, with the signal's cell in its mark
+pub record Closed (T : Table) (s : ℕ) (outer : Outer) (body end : Completion) (before after : LastPass) : Type 0 where
+  pub cell : SigCell
+  pub left : Left T s outer cell before after
+  pub code : end.code ≡ body.code
+  pub next : selection_at end.next ≡ mark_map (scope_mark cell) (selection_at body.next)

@@ -67,6 +67,7 @@ fn mark_in(alloc: Global, part: Part, mark: Mark) -> Result<Mark, NoMemory>
 }
 
 /// The completion of a statement from that of its part.
+#[inline(never)]
 pub fn within(
     alloc: Global,
     part: Part,
@@ -95,6 +96,7 @@ fn lowered(code: u16) -> u16
 }
 
 /// The completion of a trap from that of its body.
+#[inline(never)]
 pub fn trapped(alloc: Global, end: Option<Completion>) -> Result<Option<Completion>, NoMemory>
     ensures { IfOk result (Trapped end) }
 {
@@ -125,6 +127,7 @@ fn both(alloc: Global, first: Option<Mark>, second: Option<Mark>) -> Result<Opti
 
 /// The completion of two parts at once, whose touches are those from this place on. Where the code is not 1 no
 /// control rests in them, and none of their instances runs after.
+#[inline(never)]
 pub fn beside(
     alloc: Global,
     from: usize,

@@ -129,6 +129,7 @@ fn argument_values(alloc: Global, params: &[Kind], cells: &[Cell]) -> Result<Val
 }
 
 /// Starts an async statement. Its instance gets its id where the reaction ends.
+#[inline(never)]
 pub fn start_async(
     alloc: Global,
     program: &Program,
@@ -216,6 +217,7 @@ fn use_answer(
 }
 
 /// Resumes an instance, which uses the first answer that waits for it.
+#[inline(never)]
 pub fn resume_async(
     alloc: Global,
     program: &Program,
