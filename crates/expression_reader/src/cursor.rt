@@ -29,6 +29,15 @@ use std::marker::Model;
 /// The largest integer: the largest number that an expression has.
 pub const LARGEST: u64 = i64::MAX as u64;
 
+/// A list that was read to its end. Most lists of a text are short, so none keeps places for more items.
+pub fn whole_list<T>(items: Vec<T>) -> Items<T>
+    ensures { result ≡ items.items }
+{
+    let mut items = items;
+    items.shrink_to_fit();
+    Items::from_vec(items)
+}
+
 /// A reader of the tokens of a text.
 #[derive(Drop)]
 pub struct Reader<'a> {
@@ -361,11 +370,18 @@ impl<'a> Reader<'a> {
 
     // ---- what is made of tokens
 
-    /// A list to which what is read is added.
+    /// The list of nothing.
     pub fn empty_list<T: Drop>(&self) -> Items<T>
         ensures { result ≡ [] }
     {
         Items::new(self.alloc)
+    }
+
+    /// What is read of a list before its first item. It ends as `whole_list`.
+    pub fn start_list<T: Drop>(&self) -> Vec<T>
+        ensures { result.items ≡ [] }
+    {
+        Vec::new(self.alloc)
     }
 
     // ---- the end

@@ -5,7 +5,7 @@ ghost use Rattle.grammar.specs.Parser.{Reads};
 ghost use Rattle.expression_reader.specs.Refusals.{as_refusal};
 ghost use Rattle.expression_reader.specs.Reference as rule;
 
-use crate::cursor::Reader;
+use crate::cursor::{Reader, whole_list};
 use crate::fault::StepError;
 use crate::operator::{Access, Grouping, Operator, apply, choose, node};
 use crate::terminal::Terminal;
@@ -373,13 +373,13 @@ impl<'a> Reader<'a> {
         ensures { Reads as_refusal (rule.listed (rule.outermost room) self.old) result self.new }
     {
         let first = self.outermost(room)?;
-        let mut list = self.empty_list();
+        let mut list = self.start_list();
         list.push(first)?;
         'each: while self.sees_punct(Punct::Comma) {
             let item = self.next_outermost(room)?;
             list.push(item)?;
         }
-        Ok(list)
+        Ok(whole_list(list))
     }
 
     /// The same, or none.

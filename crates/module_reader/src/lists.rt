@@ -8,7 +8,7 @@ ghost use Rattle.module_reader.specs.Reference as reference;
 
 use crate::declarations::{read_interface, read_parameter, read_signal, read_valued};
 use crate::delays::read_binding;
-use expression_reader::cursor::Reader;
+use expression_reader::cursor::{Reader, whole_list};
 use expression_reader::fault::StepError;
 use hh_base::name::Name;
 use hh_base::value::Kind;
@@ -85,13 +85,13 @@ pub(crate) fn read_list<T: Listed>(reader: &mut Reader<'_>) -> Result<Items<T>, 
     ensures { Reads as_refusal (part.listed T.rule reader.old) result reader.new }
 {
     let first = T::read(reader)?;
-    let mut list = reader.empty_list();
+    let mut list = reader.start_list();
     list.push(first)?;
     'each: while reader.sees_punct(Punct::Comma) {
         let item = read_next::<T>(reader)?;
         list.push(item)?;
     }
-    Ok(list)
+    Ok(whole_list(list))
 }
 
 /// The same, or none.

@@ -10,7 +10,7 @@ ghost use Rattle.module_reader.specs.Reference as rule;
 use crate::declarations::{read_kind, read_valued};
 use crate::lists::read_list_or_none;
 use crate::statements::read_block;
-use expression_reader::cursor::Reader;
+use expression_reader::cursor::{Reader, whole_list};
 use expression_reader::fault::StepError;
 use hh_base::keyword::Keyword;
 use hh_base::name::Name;
@@ -117,12 +117,12 @@ fn sees_part(reader: &Reader<'_>) -> bool
 fn read_parts(reader: &mut Reader<'_>) -> Result<Items<Part<Name>>, StepError>
     ensures { Reads as_refusal (rule.parts OPEN_LIMIT reader.old) result reader.new }
 {
-    let mut list = reader.empty_list();
+    let mut list = reader.start_list();
     'each: while sees_part(reader) {
         let part = read_part(reader)?;
         list.push(part)?;
     }
-    Ok(list)
+    Ok(whole_list(list))
 }
 
 /// All of the text.

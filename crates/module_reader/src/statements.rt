@@ -13,7 +13,7 @@ use crate::delays::{
     read_whether_immediate,
 };
 use crate::lists::read_list;
-use expression_reader::cursor::Reader;
+use expression_reader::cursor::{Reader, whole_list};
 use expression_reader::fault::StepError;
 use expression_reader::terminal::Terminal;
 use hh_base::keyword::Keyword;
@@ -186,13 +186,13 @@ fn read_par_blocks(reader: &mut Reader<'_>, room: u8) -> Result<Items<BlockNode<
     ensures { Reads as_refusal (rule.par_blocks (rule.block room) reader.old) result reader.new }
 {
     let first = read_block(reader, room)?;
-    let mut list = reader.empty_list();
+    let mut list = reader.start_list();
     list.push(first)?;
     'each: while reader.sees_keyword(Keyword::Par) {
         let branch = read_behind_par(reader, room)?;
         list.push(branch)?;
     }
-    Ok(list)
+    Ok(whole_list(list))
 }
 
 #[cycle(statement)]
@@ -351,12 +351,12 @@ fn read_statements(
     ensures { Reads as_refusal
         (parser.many is_in_curly (rule.statement (rule.block room) room) reader.old) result reader.new }
 {
-    let mut list = reader.empty_list();
+    let mut list = reader.start_list();
     'each: while reader.sees_in_curly() {
         let statement = read_statement(reader, room)?;
         list.push(statement)?;
     }
-    Ok(list)
+    Ok(whole_list(list))
 }
 
 /// A block, where so many brackets may still be opened.

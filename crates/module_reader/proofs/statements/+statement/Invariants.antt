@@ -62,14 +62,14 @@ decreases-read_statements l = 7 * l.room + 6
 
 abbrev pub invariant-read_statements-each : goal.invariant-read_statements-each
 invariant-read_statements-each l = Rest is_in_curly (rule.statement (rule.block l.room) l.room)
-    (many is_in_curly (rule.statement (rule.block l.room) l.room) l.fn.reader) l.list l.reader
+    (many is_in_curly (rule.statement (rule.block l.room) l.room) l.fn.reader) l.list.items l.reader
 
 abbrev pub decreases-read_statements-each : goal.decreases-read_statements-each
 decreases-read_statements-each l = length l.reader.rest
 
 abbrev pub invariant-read_par_blocks-each : goal.invariant-read_par_blocks-each
 invariant-read_par_blocks-each l = Rest (is_keyword w.Par) (rule.behind_par (rule.block l.room))
-    (rule.par_blocks (rule.block l.room) l.fn.reader) l.list l.reader
+    (rule.par_blocks (rule.block l.room) l.fn.reader) l.list.items l.reader
 
 abbrev pub decreases-read_par_blocks-each : goal.decreases-read_par_blocks-each
 decreases-read_par_blocks-each l = length l.reader.rest
