@@ -1,6 +1,7 @@
 pub mod LineLaws
-pub mod Puts
 pub mod LinesFit
+pub mod Covering
+pub mod Refusals
 pub mod Scripts
 pub mod Plays
 pub mod Starts

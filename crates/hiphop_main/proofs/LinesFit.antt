@@ -33,11 +33,11 @@ same_given dir.Both = refl
 same_given dir.Output = refl
 same_given dir.Local = refl
 
-get_first : (n s : ℕ) (signals : List SignalDecl) → s < n → slice_get (take n signals) s ≡ slice_get signals s
-get_first zero s signals l = absurd (omega arith)
-get_first (suc n) s [] l = refl
-get_first (suc n) zero (x ∷ signals) l = refl
-get_first (suc n) (suc s) (x ∷ signals) l = get_first n s signals (omega arith)
+pub get_first : {A : Type 0} (n k : ℕ) (xs : List A) → k < n → slice_get (take n xs) k ≡ slice_get xs k
+get_first zero k xs l = absurd (omega arith)
+get_first (suc n) k [] l = refl
+get_first (suc n) zero (x ∷ xs) l = refl
+get_first (suc n) (suc k) (x ∷ xs) l = get_first n k xs (omega arith)
 
 module _ (signals : List SignalDecl) (n : ℕ) (local : Locals (drop n signals)) where
   given_fits : (name : List ℕ) (d : SignalDecl) (i : Input) → IsGiven signals name i.signal d → kind_of i.value ≡ d.kind

@@ -10,10 +10,9 @@ use Rattle.host_hooks.specs.Promise.{Promise}
 use Rattle.scenario_lines.specs.declared.line.Line.{Line}
 use Rattle.hiphop_main.specs.declared.ending.Cause.{Cause}
 use Rattle.hiphop_main.specs.declared.ending.Cause.TheVariants.{Fine, Usage, TooLong}
-use Rattle.hiphop_main.specs.declared.ending.Cause.TheVariants as a_cause
 use Rattle.hiphop_main.specs.Ends.{Ends, whole, out_of_memory, failed}
 use Rattle.hiphop_main.specs.Exchange.{Exchange}
-use Rattle.hiphop_main.specs.Play.{IsInput, IsBad, IsRefusedInput, IsLogText, InputPlayed, refused, played, cut_off, unanswered, cause_of}
+use Rattle.hiphop_main.specs.Play.{IsInput, IsBad, of_module, of_hooks, of_scenario, IsLogText, InputPlayed, refused, played, cut_off, unanswered, cause_of}
 use Rattle.hiphop_main.specs.Play.{Played, read, too_long, read_fault, no_memory, PlaysLog, Accepts, CompletesUnlessCutOff, Plays}
 
 pub no_word : (ws : List (List ℕ)) (p : List ℕ) → None ≡ slice_get ws 0 → ws ≡ p ∷ [] → ⊥
@@ -49,15 +48,9 @@ consumed_within (Some xs) (Some ys) told bytes e c =
 
 -- the causes that refuse an input
 bad_is : (hooks : List Promise) (input : List ℕ) (due : Cause) → IsBad hooks input due → (due ≢ Fine) × (due ≢ Usage)
-bad_is hooks input Fine h = absurd h
-bad_is hooks input a_cause.ReadFault h = absurd h
-bad_is hooks input Usage h = absurd h
-bad_is hooks input (a_cause.Module f) h = (λ e. cc, λ e. cc)
-bad_is hooks input (a_cause.NoHook p) h = (λ e. cc, λ e. cc)
-bad_is hooks input (a_cause.Scenario n) h = (λ e. cc, λ e. cc)
-bad_is hooks input a_cause.NoMemory h = absurd h
-bad_is hooks input a_cause.WriteFault h = absurd h
-bad_is hooks input TooLong h = absurd h
+bad_is hooks input _ (of_module {f} h) = (λ e. cc, λ e. cc)
+bad_is hooks input _ (of_hooks {at} h) = (λ e. cc, λ e. cc)
+bad_is hooks input _ (of_scenario {n} h) = (λ e. cc, λ e. cc)
 
 ends_fine : (due cause : Cause) (text : List ℕ) (old new : SinkState) → Ends due text old new cause → cause ≡ Fine → due ≡ Fine
 ends_fine due cause text old new (whole p) h = h

@@ -1,6 +1,6 @@
 -- What `hiphop play` owes for its input: what it writes for each cause, and when each cause comes. (This
 -- project's own.)
-use Rattle.std.specs.Prelude.{◌≡◌, ◌≢◌, ℕ, ◌+◌, ◌≤◌, Some, List, [], ◌++◌, All, length, slice_get}
+use Rattle.std.specs.Prelude.{◌≡◌, ◌≢◌, ℕ, ◌+◌, ◌≤◌, Some, List, [], ◌++◌, All, length}
 use Rattle.hh_base.specs.declared.value.Pos.{Pos}
 use Rattle.hh_io.specs.Counts.{one_more}
 use Rattle.hh_io.specs.SourceState.{SourceState, GivesAll, GivesCount, GivesAtMost, FailsReading}
@@ -25,6 +25,7 @@ use Rattle.scenario_lines.specs.declared.line.Mode.TheVariants.{Play}
 use Rattle.scenario_lines.specs.Scenario.{IsScenario, IsFirstRefused}
 use Rattle.scenario_print.specs.Print.{printed}
 use Rattle.scenario_play.specs.Plays as lines
+use Rattle.module_compile.specs.declared.fault.ModuleFault.{ModuleFault}
 use Rattle.module_compile.specs.Compiling.{CompilesTo, IsRefused}
 use Rattle.hiphop_main.specs.declared.ending.Cause.{Cause}
 use Rattle.hiphop_main.specs.declared.ending.Cause.TheVariants.{Fine, ReadFault, Usage, Module, NoHook, Scenario}
@@ -54,15 +55,25 @@ pub record IsInput (hooks : List Promise) (input : List ℕ) (p : Program) (ls :
   pub covered : All (IsCovered hooks) (bodies_of p)
   pub scenario : IsScenario Play (kernel_of p).signals (scenario_text input) ls
 
--- it has a program whose first body of the host without a hook is declared here
+-- and it is no other program, with its positions, and no other lines
+pub record IsOnlyInput (hooks : List Promise) (input : List ℕ) (p : Program) (ls : List Line) : Type 0 where
+  pub is : IsInput hooks input p ls
+  pub program : (q : Program) (ms : List Line) → IsInput hooks input q ms → kernel_of q ≡ kernel_of p
+  pub statement : (q : Program) (ms : List Line) → IsInput hooks input q ms
+      → (placed_of q).statement ≡ (placed_of p).statement
+  pub lines : (q : Program) (ms : List Line) → IsInput hooks input q ms → ms ≡ ls
+
+-- the first of these bodies that lacks a hook is declared here
+pub record IsBare (hooks : List Promise) (bodies : List BodyDecl) (at : Pos) : Type 0 where
+  pub place : ℕ
+  pub first : IsFirstUncovered hooks bodies place
+  pub position : first.body.pos ≡ at
+
+-- the input has a program whose first body of the host without a hook is declared here
 pub record LacksHook (hooks : List Promise) (input : List ℕ) (at : Pos) : Type 0 where
   pub program : Program
   pub compiled : CompilesTo (module_text input) program
-  pub place : ℕ
-  pub first : IsFirstUncovered hooks (bodies_of program) place
-  pub body : BodyDecl
-  pub declared : slice_get (bodies_of program) place ≡ Some body
-  pub position : body.pos ≡ at
+  pub bare : IsBare hooks (bodies_of program) at
 
 -- it has a program with all hooks, and this is the first line of its scenario that is refused
 pub record HasBadLine (hooks : List Promise) (input : List ℕ) (n : ℕ) : Type 0 where
@@ -72,15 +83,15 @@ pub record HasBadLine (hooks : List Promise) (input : List ℕ) (n : ℕ) : Type
   pub line : IsFirstRefused Play (kernel_of program).signals (scenario_text input) n
 
 -- what is refused, in this order: the module text, a body without a hook, a line of the scenario
-abbrev pub IsBad : List Promise → List ℕ → Cause → Type 0
-IsBad hooks input (Module f) = IsRefused (module_text input) f
-IsBad hooks input (NoHook p) = LacksHook hooks input p
-IsBad hooks input (Scenario n) = HasBadLine hooks input n
-IsBad hooks input _ = ⊥
+pub data IsBad (hooks : List Promise) (input : List ℕ) : Cause → Type 0 where
+  of_module : {f : ModuleFault} → IsRefused (module_text input) f → IsBad hooks input (Module f)
+  of_hooks : {at : Pos} → LacksHook hooks input at → IsBad hooks input (NoHook at)
+  of_scenario : {n : ℕ} → HasBadLine hooks input n → IsBad hooks input (Scenario n)
 
--- a refused input is no other one
+-- a refused input has this cause alone, and is no program with its scenario
 pub record IsRefusedInput (hooks : List Promise) (input : List ℕ) (due : Cause) : Type 0 where
   pub bad : IsBad hooks input due
+  pub only : (other : Cause) → IsBad hooks input other → other ≡ due
   pub none : (p : Program) (ls : List Line) → IsInput hooks input p ls → ⊥
 
 -- ---- logs
@@ -95,7 +106,7 @@ pub record IsLogOf (hooks : List Promise) (p : Program) (ls : List Line) (log : 
 pub record IsLogText (hooks : List Promise) (input text : List ℕ) (behind : List Line) : Type 0 where
   pub program : Program
   pub front : List Line
-  pub input_is : IsInput hooks input program (front ++ behind)
+  pub input_is : IsOnlyInput hooks input program (front ++ behind)
   pub log : List Entry
   pub log_is : IsLogOf hooks program front log
   pub text_is : text ≡ printed (signals_of program) (bodies_of program) (replies_in log)

@@ -5,7 +5,7 @@ ghost use Rattle.hh_term.specs.ProgramView.{kernel_of};
 ghost use Rattle.host_hooks.specs.Stored.{promises_of};
 ghost use Rattle.scenario_lines.specs.Interface.{HasNames};
 ghost use Rattle.scenario_play.specs.Plays.{LineFits};
-ghost use Rattle.hiphop_main.specs.Play.{IsInput, IsRefusedInput, bodies_of, signals_of};
+ghost use Rattle.hiphop_main.specs.Play.{IsOnlyInput, IsRefusedInput, bodies_of, signals_of};
 ghost use Rattle.hiphop_main.specs.Scripts.{Compiled, Covered, Lined};
 
 use crate::ending::Cause;
@@ -76,7 +76,7 @@ fn read_lines(alloc: Global, program: &Program, text: &[u8]) -> Result<Vec<Line>
 /// scenario; or want of memory.
 pub fn read_script(alloc: Global, input: &[u8], hooks: &HookTable) -> Result<Script, Cause>
     requires { length input.now ≤ INPUT_LIMIT }
-    ensures found { IfOk result (λ s. IsInput (promises_of hooks.now) input.now s.program s.lines.items) }
+    ensures found { IfOk result (λ s. IsOnlyInput (promises_of hooks.now) input.now s.program s.lines.items) }
     ensures refused { IfErr result (λ cause. (cause ≡ Cause.NoMemory)
         ⊎ IsRefusedInput (promises_of hooks.now) input.now cause) }
     ensures few { IfOk result (λ s. length s.lines.items < 2 ^ 61) }

@@ -7,7 +7,7 @@ use Rattle.module_reader.specs.Reading.{HasTree, IsFirstFault, IsByRule}
 use Rattle.module_reader.specs.declared.fault.ReadFault.{ReadFault}
 use Rattle.module_reader.specs.declared.fault.ReadFault.TheVariants.{Token, Grammar, NoModule, NoMemory}
 use Rattle.hh_term.specs.declared.program.Program.{Program}
-use Rattle.hh_term.specs.ProgramView.{kernel_of}
+use Rattle.hh_term.specs.ProgramView.{kernel_of, placed_of}
 use Rattle.link_faults.specs.FirstFault as link
 use Rattle.module_link.specs.Resolved.{resolved_parts}
 use Rattle.kernel_expand.specs.declared.fault.ExpandFault.{ExpandFault}
@@ -29,6 +29,14 @@ pub one_kernel : (text : List ℕ) (p q : Program) → CompilesTo text p → Com
 one_kernel text p q a b =
     a.program.kernel ∙ ap kernel_of_expansion (one_expansion text a.expansion b.expansion a.linked b.linked)
     ∙ sym b.program.kernel
+
+-- with its positions, too
+pub one_statement : (text : List ℕ) (p q : Program) → CompilesTo text p → CompilesTo text q
+    → (placed_of p).statement ≡ (placed_of q).statement
+one_statement text p q a b =
+    a.program.statement
+    ∙ ap (λ (x : Expansion). x.statement) (one_expansion text a.expansion b.expansion a.linked b.linked)
+    ∙ sym b.program.statement
 
 no_refusal : (o : Option ExpandFault) (f : ExpandFault) → o ≡ None → o ≡ Some f → ⊥
 no_refusal None f none some = cc

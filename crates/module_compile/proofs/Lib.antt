@@ -1,1 +1,2 @@
 pub mod CompileLaws
+pub mod RefusalLaws

@@ -8,12 +8,12 @@ use Rattle.hh_io.specs.declared.fault.SinkFault.TheVariants.{Failed, NoMemory as
 use Rattle.scenario_lines.specs.declared.line.Line.{Line}
 use Rattle.host_hooks.specs.Promise.{Promise}
 use Rattle.hiphop_main.specs.declared.ending.Cause.{Cause}
-use Rattle.hiphop_main.specs.declared.ending.Cause.TheVariants.{Fine, ReadFault, Usage, Module, NoHook, Scenario, NoMemory, WriteFault, TooLong}
+use Rattle.hiphop_main.specs.declared.ending.Cause.TheVariants.{Fine, ReadFault, Usage, NoMemory, WriteFault, TooLong}
 use Rattle.hiphop_main.specs.declared.limits.TheConstants.{INPUT_LIMIT}
 use Rattle.hiphop_main.specs.Ends.{Ends, whole, out_of_memory, failed}
 use Rattle.hiphop_main.specs.Exchange.{Exchange, exchange}
 use Rattle.hiphop_main.specs.Obeys.{IsPlay, Obeys, plays, says_usage, play}
-use Rattle.hiphop_main.specs.Play.{IsInput, IsLogText, IsBad, IsRefusedInput, cause_of}
+use Rattle.hiphop_main.specs.Play.{IsInput, IsLogText, IsBad, of_module, of_hooks, of_scenario, cause_of}
 use Rattle.hiphop_main.specs.Play.{InputPlayed, refused, played, cut_off, unanswered, Played, read, too_long, read_fault, no_memory}
 use Rattle.play_tests.specs.InMemory.{EndsInMemory, all, cut_off as cut_short, InputInMemory, refused_in, played_in, cut_in}
 use Rattle.play_tests.specs.InMemory.{PlaysInMemory, within, beyond, nothing, ObeysInMemory, plays_in, says_in}
@@ -82,15 +82,9 @@ ends_fine due cause line text (cut_short n le e) h = cc
 
 -- what is refused is refused for one of three causes
 bad_is_due : (hooks : List Promise) (input : List ℕ) (due : Cause) → IsBad hooks input due → (due ≢ Fine) × (due ≢ ReadFault) × (due ≢ WriteFault)
-bad_is_due hooks input (Module f) b = (λ h. cc, λ h. cc, λ h. cc)
-bad_is_due hooks input (NoHook p) b = (λ h. cc, λ h. cc, λ h. cc)
-bad_is_due hooks input (Scenario n) b = (λ h. cc, λ h. cc, λ h. cc)
-bad_is_due hooks input Fine b = absurd b
-bad_is_due hooks input ReadFault b = absurd b
-bad_is_due hooks input Usage b = absurd b
-bad_is_due hooks input NoMemory b = absurd b
-bad_is_due hooks input WriteFault b = absurd b
-bad_is_due hooks input TooLong b = absurd b
+bad_is_due hooks input _ (of_module {f} b) = (λ h. cc, λ h. cc, λ h. cc)
+bad_is_due hooks input _ (of_hooks {at} b) = (λ h. cc, λ h. cc, λ h. cc)
+bad_is_due hooks input _ (of_scenario {n} b) = (λ h. cc, λ h. cc, λ h. cc)
 
 input_fine : (hooks : List Promise) (input text : List ℕ) (cause : Cause) → InputInMemory hooks input text cause → cause ≡ Fine → IsLogText hooks input text []
 input_fine hooks input text _ (refused_in {due} {cause = last} r e) h =

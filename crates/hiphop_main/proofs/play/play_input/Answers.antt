@@ -7,11 +7,11 @@ use Rattle.hiphop_main.proofs.Scripts.{script_played}
 use Rattle.hiphop_main.proofs.play.play_input.Goals as goal
 
 pub play_script-requires-clause-covered : goal.play_script-requires-clause-covered
-play_script-requires-clause-covered g c = c.in-Ok.ensures.found.covered
+play_script-requires-clause-covered g c = c.in-Ok.ensures.found.is.covered
 
 pub play_script-requires-clause-fit : goal.play_script-requires-clause-fit
 play_script-requires-clause-fit g c =
-    scenario_fits (kernel_of c.in-Ok.script.program) Play (scenario_text c.args.input.now) c.in-Ok.script.lines.items c.in-Ok.script.program.rules c.in-Ok.ensures.found.scenario
+    scenario_fits (kernel_of c.in-Ok.script.program) Play (scenario_text c.args.input.now) c.in-Ok.script.lines.items c.in-Ok.script.program.rules c.in-Ok.ensures.found.is.scenario
 
 pub returns-in-Ok : goal.returns-in-Ok
 returns-in-Ok g c =

@@ -3,8 +3,8 @@ use Rattle.std.proofs.lemmas.Result.{err_from_is_err_and}
 use Rattle.hh_term.specs.ProgramView.{kernel_of}
 use Rattle.host_hooks.specs.Stored.{promises_of}
 use Rattle.module_compile.specs.Compiling.{CompilesTo}
-use Rattle.hiphop_main.specs.Scripts.{Compiled, Lined}
-use Rattle.hiphop_main.proofs.Scripts.{module_refused, hook_refused, line_refused}
+use Rattle.hiphop_main.specs.Scripts.{Compiled, IsOnlyScenario, Lined}
+use Rattle.hiphop_main.proofs.Scripts.{only_input, module_refused, hook_refused, line_refused}
 use Rattle.hiphop_main.proofs.script.read_script.Goals as goal
 
 pub compile_module-requires : goal.compile_module-requires
@@ -31,3 +31,9 @@ returns-in_err-lines-clause-refused g c =
     (line_refused (promises_of c.args.hooks.now) c.args.input.now c.in_ok-program.program c.in_err-lines.field-0.0
     (subst (λ t. CompilesTo t c.in_ok-program.program) c.split.ensures.modules c.in_ok-program.ensures) c.in_ok-check_hooks.ensures
     (subst (λ t. Lined (kernel_of c.in_ok-program.program).signals t (Err c.in_err-lines.field-0.0)) c.split.ensures.scenario c.in_err-lines.ensures.lines))
+
+pub returns-clause-found : goal.returns-clause-found
+returns-clause-found g c =
+    only_input (promises_of c.args.hooks.now) c.args.input.now c.in_ok-program.program c.in_ok-lines.lines.items
+    (subst (λ t. CompilesTo t c.in_ok-program.program) c.split.ensures.modules c.in_ok-program.ensures) c.in_ok-check_hooks.ensures
+    (subst (λ t. IsOnlyScenario (kernel_of c.in_ok-program.program).signals t c.in_ok-lines.lines.items) c.split.ensures.scenario c.in_ok-lines.ensures.lines)
