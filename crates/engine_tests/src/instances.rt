@@ -165,18 +165,22 @@ fn answers_of(alloc: Global, tried: &[(u64, i64, bool)]) -> Result<Answers, NoMe
     Ok(answers)
 }
 
-fn change_of(alloc: Global, id: u64, happened: &str) -> Result<Change, NoMemory> {
+/// The arguments of a start, which has the id 0.
+fn args_of(alloc: Global, id: u64) -> Result<Option<Values>, NoMemory> {
+    if id > 0 {
+        return Ok(None);
+    }
     let mut args = Vec::new(alloc);
     args.push(Value::Int(4))?;
+    Ok(Some(Values::from_vec(args)))
+}
+
+fn change_of(alloc: Global, id: u64, happened: &str) -> Result<Change, NoMemory> {
     let letters = happened.as_bytes();
     Ok(Change {
         id,
         body: 0,
-        started: if id == 0 {
-            Some(Values::from_vec(args))
-        } else {
-            None
-        },
+        started: args_of(alloc, id)?,
         used: letters.contains(&b'u'),
         ended: letters.contains(&b'e'),
         held: letters.contains(&b'h'),
@@ -222,25 +226,95 @@ fn shown(effect: &Effect) -> (&'static str, u64, i64) {
     }
 }
 
-#[test]
-fn runs(rt: HostRuntime) -> Result<(), Fail> {
-    let alloc = rt.alloc();
-    for run in RUNS {
-        let mut instances = Instances::new(alloc, 0);
-        for reaction in run {
-            let mut told = Vec::new(alloc);
-            let answers = answers_of(alloc, reaction.answers)?;
-            instances.enter(alloc, &[Kind::Int], true, &answers, &mut told)?;
-            let changes = changes_of(alloc, reaction.changes)?;
-            assert!(rt; instances.has_ids(&changes));
-            instances.advance(alloc, &changes, &mut told)?;
-            assert_eq!(rt; told.len(), reaction.told.len());
-            for (effect, expected) in told.iter().zip(reaction.told) {
-                assert_eq!(rt; shown(effect), *expected);
-            }
+/// Whether these effects are told, in this order.
+fn are_told(told: &[Effect], want: &[(&'static str, u64, i64)]) -> bool {
+    if told.len() != want.len() {
+        return false;
+    }
+    for (effect, expected) in told.iter().zip(want) {
+        if shown(effect) != *expected {
+            return false;
         }
     }
+    true
+}
+
+fn enter(
+    alloc: Global,
+    instances: &mut Instances,
+    parts: bool,
+    tried: &[(u64, i64, bool)],
+    told: &mut Vec<Effect>,
+) -> Result<(), NoMemory> {
+    let answers = answers_of(alloc, tried)?;
+    instances.enter(alloc, &[Kind::Int], parts, &answers, told)
+}
+
+/// Whether there were ids for the changes, and they were made.
+fn advance(
+    alloc: Global,
+    instances: &mut Instances,
+    happened: &[(u64, &str)],
+    told: &mut Vec<Effect>,
+) -> Result<bool, NoMemory> {
+    let changes = changes_of(alloc, happened)?;
+    if !instances.has_ids(&changes) {
+        return Ok(false);
+    }
+    instances.advance(alloc, &changes, told)?;
+    Ok(true)
+}
+
+/// Whether the reaction tells what it is to tell.
+fn tells(alloc: Global, instances: &mut Instances, reaction: &Reaction) -> Result<bool, NoMemory> {
+    let mut told = Vec::new(alloc);
+    enter(alloc, instances, true, reaction.answers, &mut told)?;
+    let advanced = advance(alloc, instances, reaction.changes, &mut told)?;
+    Ok(advanced && are_told(&told, reaction.told))
+}
+
+/// Whether each reaction of the run does so.
+fn run_tells(alloc: Global, run: &[Reaction]) -> Result<bool, NoMemory> {
+    let mut instances = Instances::new(alloc, 0);
+    for reaction in run {
+        if !tells(alloc, &mut instances, reaction)? {
+            return Ok(false);
+        }
+    }
+    Ok(true)
+}
+
+#[test]
+fn runs(rt: HostRuntime) -> Result<(), Fail> {
+    for run in RUNS {
+        assert!(rt; run_tells(rt.alloc(), run)?);
+    }
     Ok(())
+}
+
+/// How many answers wait for the first instance.
+fn waiting(instances: &Instances) -> Option<usize> {
+    match instances.at(0) {
+        Some(instance) => Some(instance.queue.len()),
+        None => None,
+    }
+}
+
+/// Whether a copy has no answer of those that enter later, of which the parts are not taken.
+fn copy_stays(
+    alloc: Global,
+    instances: &mut Instances,
+    told: &mut Vec<Effect>,
+) -> Result<bool, NoMemory> {
+    let copy = instances.copy(alloc)?;
+    enter(
+        alloc,
+        instances,
+        false,
+        &[(7, 5, false), (7, 6, true)],
+        told,
+    )?;
+    Ok(waiting(&copy) == Some(0) && copy.at(1).is_none())
 }
 
 // Partial answers are dropped where they are not taken, and a copy does not share its queues.
@@ -248,24 +322,10 @@ fn runs(rt: HostRuntime) -> Result<(), Fail> {
 fn partial_answers(rt: HostRuntime) -> Result<(), Fail> {
     let alloc = rt.alloc();
     let mut instances = Instances::new(alloc, 6);
-    let changes = changes_of(alloc, &[(0, "a")])?;
     let mut told = Vec::new(alloc);
-    assert!(rt; instances.has_ids(&changes));
-    instances.advance(alloc, &changes, &mut told)?;
-    let copy = instances.copy(alloc)?;
-    let answers = answers_of(alloc, &[(7, 5, false), (7, 6, true)])?;
-    instances.enter(alloc, &[Kind::Int], false, &answers, &mut told)?;
-    assert_eq!(rt;
-        told.iter().map(shown).collect::<Vec<_>>(alloc)?.as_slice(),
-        [("start", 7, 4), ("mistyped", 7, 0)].as_slice()
-    );
-    assert_eq!(rt; instances.last(), 7);
-    assert!(rt;
-        instances
-            .at(0)
-            .is_some_and(|instance| instance.queue.len() == 1)
-    );
-    assert!(rt; copy.at(0).is_some_and(|instance| instance.queue.is_empty()));
-    assert!(rt; copy.at(1).is_none());
+    assert!(rt; advance(alloc, &mut instances, &[(0, "a")], &mut told)?);
+    assert!(rt; copy_stays(alloc, &mut instances, &mut told)?);
+    assert!(rt; are_told(&told, &[("start", 7, 4), ("mistyped", 7, 0)]));
+    assert!(rt; instances.last() == 7 && waiting(&instances) == Some(1));
     Ok(())
 }

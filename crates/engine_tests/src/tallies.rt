@@ -1,33 +1,50 @@
 //! What tallies give, by tables.
 
-use hh_base::value::{CombineWord, Kind, Tri, Value};
+use hh_base::value::{CombineWord, Kind, NoMemory, Tri, Value};
 use host_expr::cell::Cell;
 use status_table::laws::{program_is_solved, standing_is_solved, standing_steps};
 use status_table::tally::Tally;
 use std::alloc::Global;
 use std::test::Fail;
 
-/// The status, and the value if it is a known number, of a signal with these two emissions, of which the second is
-/// executed or only possible. Its value was 7.
-fn solved(
+fn executed(
+    alloc: Global,
+    tally: Tally,
+    word: CombineWord,
+    number: i64,
+) -> Result<Tally, NoMemory> {
+    let cell = Cell::Known(Value::Int(number));
+    tally.add_executed(alloc, Kind::Int, Some(word), cell)
+}
+
+/// The tally of two emissions, of which the second is executed or only possible.
+fn two(
     alloc: Global,
     word: CombineWord,
     first: i64,
     second: i64,
     sure: bool,
-) -> Result<(Tri, Option<i64>), Fail> {
-    let cell = Cell::Known(Value::Int(first));
-    let tally = Tally::new().add_executed(alloc, Kind::Int, Some(word), cell)?;
-    let tally = if sure {
-        let cell = Cell::Known(Value::Int(second));
-        tally.add_executed(alloc, Kind::Int, Some(word), cell)?
+) -> Result<Tally, NoMemory> {
+    let tally = executed(alloc, Tally::new(), word, first)?;
+    if sure {
+        executed(alloc, tally, word, second)
     } else {
-        tally.add_possible()?
-    };
+        tally.add_possible()
+    }
+}
+
+/// Whether a signal with this tally, whose value was 7, has this status, and this number as its value, if that is
+/// known.
+fn is_solved(alloc: Global, tally: Tally, status: Tri, value: Option<i64>) -> bool {
     let known = tally.solved(alloc, Kind::Int, Value::Int(7));
-    match known.value {
-        Cell::Known(Value::Int(number)) => Ok((known.status, Some(number))),
-        _ => Ok((known.status, None)),
+    known.status == status && is_number(&known.value, value)
+}
+
+fn is_number(cell: &Cell, value: Option<i64>) -> bool {
+    match cell {
+        Cell::Known(Value::Int(number)) => value == Some(*number),
+        Cell::Unknown => value.is_none(),
+        _ => false,
     }
 }
 
@@ -51,17 +68,18 @@ const TWO_EMISSIONS: [(CombineWord, i64, i64, bool, Option<i64>); 8] = [
 #[test]
 fn two_emissions(rt: HostRuntime) -> Result<(), Fail> {
     for (word, first, second, sure, want) in TWO_EMISSIONS {
-        let (status, value) = solved(rt.alloc(), word, first, second, sure)?;
-        assert_eq!(rt; status, Tri::One);
-        assert_eq!(rt; value, want, "at {first} and {second}");
+        let tally = two(rt.alloc(), word, first, second, sure)?;
+        let solved = is_solved(rt.alloc(), tally, Tri::One, want);
+        assert!(rt; solved, "at {first} and {second}");
     }
-    let known = Tally::new().solved(rt.alloc(), Kind::Int, Value::Int(7));
-    assert_eq!(rt; known.status, Tri::Zero);
-    assert!(rt; matches!(known.value, Cell::Known(Value::Int(7))));
-    let tally = Tally::new().add_possible()?;
-    let known = tally.solved(rt.alloc(), Kind::Int, Value::Int(7));
-    assert_eq!(rt; known.status, Tri::Unknown);
-    assert!(rt; matches!(known.value, Cell::Unknown));
+    Ok(())
+}
+
+#[test]
+fn no_emissions(rt: HostRuntime) -> Result<(), Fail> {
+    assert!(rt; is_solved(rt.alloc(), Tally::new(), Tri::Zero, Some(7)));
+    let possible = Tally::new().add_possible()?;
+    assert!(rt; is_solved(rt.alloc(), possible, Tri::Unknown, None));
     standing_is_solved();
     standing_steps();
     program_is_solved();
