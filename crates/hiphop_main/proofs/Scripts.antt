@@ -52,10 +52,10 @@ use Rattle.scenario_play.proofs.Puts.{puts_no_part}
 
 -- the first body that lacks a hook, by its place
 pub bare_at : (hooks : List Promise) (read own : List BodyDecl) (place : ℕ) (b : BodyDecl) → read ≡ own
-    → IsFirstUncovered hooks read place → b ≡ get_or read place b → IsBare hooks own b.pos
+    → IsFirstUncovered hooks read place → b ≡ get_or read place b → IsBare hooks own (get_or read place b).pos
 bare_at hooks read own place b same first is =
-    let there : b ≡ first.body = is ∙ get_or_from_slice_get read place first.body b first.at in
-    subst (λ (bodies : List BodyDecl). IsBare hooks bodies b.pos) same
+    let there : get_or read place b ≡ first.body = get_or_from_slice_get read place first.body b first.at in
+    subst (λ (bodies : List BodyDecl). IsBare hooks bodies (get_or read place b).pos) same
     (record { place = place; first = first; position = sym (ap (λ (d : BodyDecl). d.pos) there) })
 
 -- ---- an input is one program with one list of lines
