@@ -1,0 +1,5 @@
+pub mod Statements
+pub mod Reactions
+pub mod Resting
+pub mod Waits
+pub mod Aborts

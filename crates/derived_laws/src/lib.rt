@@ -1,0 +1,4 @@
+//! The direct rule of each statement that is not of the kernel.
+#![tactic(auto)]
+
+pub mod laws;
