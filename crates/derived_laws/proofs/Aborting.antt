@@ -64,7 +64,7 @@ test_next M cell.Unknown x y h g = tt
 test_next M (cell.Known v) x y h g = flag_next M (truth v) x y h g
 test_next M (cell.Faulted o k) x y h g = fault_next M o k y g
 
-by_test_next : (M : Selection → Type 0) (c : Cell) (x y : Option Stepped) → NextMark M x → NextMark M y
+pub by_test_next : (M : Selection → Type 0) (c : Cell) (x y : Option Stepped) → NextMark M x → NextMark M y
     → NextMark M (by_test c x y)
 by_test_next M cell.Unknown x y h g = tt
 by_test_next M (cell.Known v) x y h g = flag_next M (truth v) x y h g
@@ -76,7 +76,7 @@ preempts_next f c T p m o h =
     test_next (Round f T p) c (Some (killed p m)) (option_map (λ a. then_fault c (inside f a)) o) tt
     (watched_next f c T p o h)
 
-cut_next : (M : Selection → Type 0) (o : Option Stepped) → NextMark M (option_map cut o)
+pub cut_next : (M : Selection → Type 0) (o : Option Stepped) → NextMark M (option_map cut o)
 cut_next M (Some a) = tt
 cut_next M None = tt
 
@@ -115,7 +115,7 @@ strong_enter m None = refl
 
 now_enter : (m : Selection) (o : Option Selection)
     → option_map Second (option_map Inside
-        (of_either (First (Inside m)) (option_map First (option_map Inside o)) waiting None))
+    (of_either (First (Inside m)) (option_map First (option_map Inside o)) waiting None))
     ≡ mark_map aborting_now o
 now_enter m (Some n) = refl
 now_enter m None = refl
@@ -139,18 +139,18 @@ suspended d p = Seq (Suspend (expression_of d) p) (Exit 0)
 
 -- ---- `abort`
 
-aborts_at : (T : Table) (E : Env) (d : Expr ℕ) (p : Statement)
+pub aborts_at : (T : Table) (E : Env) (d : Expr ℕ) (p : Statement)
     → step T (row.abort plain d p) Start E ≡ option_map (inside aborting) (step T p Start E)
 aborts_at T E d p = strong_start waiting (step T p Start E) (closed T p Start E)
 
-aborts_later : (T : Table) (E : Env) (d : Expr ℕ) (p : Statement) (m : Selection)
+pub aborts_later : (T : Table) (E : Env) (d : Expr ℕ) (p : Statement) (m : Selection)
     → step T (row.abort plain d p) (Resume (aborting m)) E
     ≡ preempts aborting (test d E) (killed p m) (step T p (Resume m) E)
 aborts_later T E d p m =
     ap (together (on_test (test d E) (Some (rests (Inside (held_mark m)) (held_touches p m)))
-        (wrap Inside (step T p (Resume m) E)))) (wait_resumes T E d)
+    (wrap Inside (step T p (Resume m) E)))) (wait_resumes T E d)
     ∙ strong_step waiting (Inside (held_mark m)) (held_touches p m) (test d E) (step T p (Resume m) E)
-        (closed T p (Resume m) E)
+    (closed T p (Resume m) E)
 
 pub abort_obeys : AbortObeys
 abort_obeys =
@@ -226,9 +226,9 @@ now_later : (T : Table) (E : Env) (d : Expr ℕ) (p : Statement) (m : Selection)
 now_later T E d p m =
     ap (wrap Second) (aborts_later T E d p m)
     ∙ wrap_test Second (test d E) (Some (killed p m))
-        (option_map (λ a. then_fault (test d E) (inside aborting a)) (step T p (Resume m) E))
-        (option_map (λ a. then_fault (test d E) (inside aborting_now a)) (step T p (Resume m) E))
-        (watched_twice (test d E) (step T p (Resume m) E))
+    (option_map (λ a. then_fault (test d E) (inside aborting a)) (step T p (Resume m) E))
+    (option_map (λ a. then_fault (test d E) (inside aborting_now a)) (step T p (Resume m) E))
+    (watched_twice (test d E) (step T p (Resume m) E))
 
 pub abort_immediate_obeys : AbortImmediateObeys
 abort_immediate_obeys =
@@ -247,8 +247,8 @@ abort_immediate_obeys =
     starts T d p E =
         subst (NextMark (Round aborting_now T p)) (sym (now_starts T E d p))
         (test_next (Round aborting_now T p) (test d E) (Some (completes 0))
-            (option_map (inside aborting_now) (step T p Start E)) tt
-            (inside_next aborting_now T p (step T p Start E) ((keeps T p).start E)))
+        (option_map (inside aborting_now) (step T p Start E)) tt
+        (inside_next aborting_now T p (step T p Start E) ((keeps T p).start E)))
 
     resumes : (T : Table) (d : Expr ℕ) (p : Statement) (m : Selection) → RestsAt T p m → (E : Env)
         → NextMark (Round aborting_now T p) (step T (row.abort_immediate plain d p) (Resume (aborting_now m)) E)

@@ -3,3 +3,12 @@ pub mod Waiting
 pub mod Closing
 pub mod Watching
 pub mod Aborting
+pub mod Suspending
+pub mod Repeating
+pub mod Every
+pub mod Turns
+pub mod Counting
+pub mod Solving
+pub mod Silence
+pub mod CountedAborting
+pub mod CountedRepeating

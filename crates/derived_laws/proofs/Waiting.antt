@@ -98,7 +98,7 @@ pub wait_resumes : (T : Table) (E : Env) (d : Expr ℕ) → step T (row.waiting 
 wait_resumes T E d =
     through_test
     (λ x. then_start Inside Inside (then_start First Second (Some (completes 0)) x)
-        (Some (rests (First AtPause) [])))
+    (Some (rests (First AtPause) [])))
     (test d E) (Some (completes 2)) (Some (completes 0)) (Some (completes 2)) (Some (rests waiting [])) refl refl
     refl (λ o k. refl)
 
@@ -128,14 +128,14 @@ pub await_resumes : (T : Table) (E : Env) (d : Expr ℕ) → step T (row.await p
     ≡ on_test (test d E) (Some (completes 0)) (Some (rests awaiting []))
 await_resumes T E d =
     subst (λ x. (x >>= (λ a. Some (trap_step a)))
-        ≡ on_test (test d E) (Some (completes 0)) (Some (rests awaiting []))) (sym (wait_resumes T E d))
+    ≡ on_test (test d E) (Some (completes 0)) (Some (rests awaiting []))) (sym (wait_resumes T E d))
     (trapped_wait (test d E) waiting)
 
 pub await_now_starts : (T : Table) (E : Env) (d : Expr ℕ) → step T (row.await_immediate plain d) Start E
     ≡ on_test (test d E) (Some (completes 0)) (Some (rests awaiting_now []))
 await_now_starts T E d =
     subst (λ x. (x >>= (λ a. Some (trap_step a)))
-        ≡ on_test (test d E) (Some (completes 0)) (Some (rests awaiting_now []))) (sym (wait_now_starts T E d))
+    ≡ on_test (test d E) (Some (completes 0)) (Some (rests awaiting_now []))) (sym (wait_now_starts T E d))
     (trapped_wait (test d E) waiting_now)
 
 pub await_now_resumes : (T : Table) (E : Env) (d : Expr ℕ)
@@ -143,7 +143,7 @@ pub await_now_resumes : (T : Table) (E : Env) (d : Expr ℕ)
     ≡ on_test (test d E) (Some (completes 0)) (Some (rests awaiting_now []))
 await_now_resumes T E d =
     subst (λ x. (x >>= (λ a. Some (trap_step a)))
-        ≡ on_test (test d E) (Some (completes 0)) (Some (rests awaiting_now []))) (sym (wait_now_resumes T E d))
+    ≡ on_test (test d E) (Some (completes 0)) (Some (rests awaiting_now []))) (sym (wait_now_resumes T E d))
     (trapped_wait (test d E) waiting_now)
 
 pub await_obeys : AwaitObeys
@@ -164,9 +164,9 @@ await_immediate_obeys =
       later = λ T E d. await_now_resumes T E d;
       marks = λ T d. at_one T (row.await_immediate plain d) awaiting_now
           (λ E. subst (NextMark (λ m. m ≡ awaiting_now)) (sym (await_now_starts T E d))
-              (await_next (test d E) awaiting_now))
+          (await_next (test d E) awaiting_now))
           (λ E. subst (NextMark (λ m. m ≡ awaiting_now)) (sym (await_now_resumes T E d))
-              (await_next (test d E) awaiting_now))
+          (await_next (test d E) awaiting_now))
           refl (λ id a. refl);
       expands = λ modules pos d a n. refl;
     }

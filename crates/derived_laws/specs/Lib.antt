@@ -3,3 +3,8 @@ pub mod Reactions
 pub mod Resting
 pub mod Waits
 pub mod Aborts
+pub mod Suspends
+pub mod Repeats
+pub mod Counts
+pub mod CountedAborts
+pub mod CountedRepeats
