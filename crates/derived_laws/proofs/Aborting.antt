@@ -1,6 +1,5 @@
 -- `abort` and `weakabort`, from what a body does beside what watches.
 use Rattle.std.proofs.Common.{◌≡◌, refl, sym, ap, subst, ◌∙◌, ℕ, Bool, true, false, cond, Option, Some, None}
-use Rattle.std.proofs.Common.{List, [], ◌∷◌, ◌++◌}
 use Rattle.std.specs.Prelude.{option_map}
 use Rattle.hh_base.specs.declared.value.Pos.{Pos}
 use Rattle.hh_base.specs.declared.value.FaultKind.{FaultKind}
@@ -10,23 +9,22 @@ use Rattle.host_expr.specs.declared.cell.Cell.TheVariants as cell
 use Rattle.host_expr.specs.declared.expr.Expr.{Expr}
 use Rattle.host_expr.specs.Environment.{Env}
 use Rattle.host_expr.specs.Evaluation.{truth}
-use Rattle.host_expr.specs.Expression.{Expression, expression_of}
+use Rattle.host_expr.specs.Expression.{expression_of}
 use Rattle.hh_term.specs.Statement.{Statement, Nothing, If, Suspend, Seq, Par, Trap, Exit}
 use Rattle.hh_term.specs.Selection.{Selection, First, Second, Both, Inside, Start, Resume}
 use Rattle.hh_term.specs.Entering.{with_item, of_either}
 use Rattle.hh_term.specs.MustCan.{Table}
 use Rattle.hh_term.specs.Step.{Stepped, ◌>>=◌, completes, rests, mark_map, wrap, with_fault, on_test, step}
 use Rattle.hh_term.specs.Touches.{held_mark, held_touches}
-use Rattle.hh_term.specs.Placed.{unplaced}
-use Rattle.kernel_expand.specs.Numbering.{Piece, Around, Numbered, numbering, in_numbers, in_trap}
+use Rattle.kernel_expand.specs.Numbering.{in_numbers, in_trap}
 use Rattle.kernel_expand.specs.Rows as row
 use Rattle.derived_laws.specs.Statements.{plain, test}
 use Rattle.derived_laws.specs.Reactions.{inside, cut, then_fault, by_test, killed, preempts, cuts}
-use Rattle.derived_laws.specs.Resting.{RestsAt, held, Round, round, mark_after}
+use Rattle.derived_laws.specs.Resting.{RestsAt, held, Round, round}
 use Rattle.derived_laws.specs.Waits.{waiting, waiting_now}
 use Rattle.derived_laws.specs.Aborts.{AbortObeys, AbortImmediateObeys, WeakAbortObeys, WeakAbortImmediateObeys}
-use Rattle.derived_laws.specs.Aborts.{aborting, aborting_now, weakly_aborting, weakly_aborting_now, StandsIn, body}
-use Rattle.derived_laws.proofs.Marks.{AnyMark, NextMark, Keeps, kept, keeps}
+use Rattle.derived_laws.specs.Aborts.{aborting, aborting_now, weakly_aborting, weakly_aborting_now, body}
+use Rattle.derived_laws.proofs.Marks.{AnyMark, NextMark, kept, keeps}
 use Rattle.derived_laws.proofs.Closing.{closed}
 use Rattle.derived_laws.proofs.Waiting.{through_test, wait_resumes, wait_now_starts, wait_now_resumes}
 use Rattle.derived_laws.proofs.Watching.{together, strong_step, strong_start, weak_step, weak_start}

@@ -3,8 +3,6 @@ use Rattle.std.proofs.Common.{◌≡◌, refl, sym, ap, subst, ◌∙◌, ℕ, B
 use Rattle.std.proofs.Common.{List, [], ◌∷◌, ◌++◌, map, length, append-nil}
 use Rattle.std.specs.Prelude.{option_map}
 use Rattle.hh_base.specs.declared.value.Pos.{Pos}
-use Rattle.hh_base.specs.declared.value.FaultKind.{FaultKind}
-use Rattle.hh_base.specs.declared.value.Value.{Value}
 use Rattle.hh_base.specs.declared.value.Value.TheVariants as value
 use Rattle.host_expr.specs.declared.cell.Cell.{Cell}
 use Rattle.host_expr.specs.declared.cell.Cell.TheVariants as cell
@@ -17,8 +15,8 @@ use Rattle.host_expr.specs.Combination.{counts_as}
 use Rattle.host_expr.proofs.Trees.{expr-Now}
 use Rattle.hh_base.specs.declared.item.Item.{Item}
 use Rattle.hh_term.specs.Statement.{Statement, Nothing, Emit, Suspend, Seq, Par, Trap, Exit, Local}
-use Rattle.hh_term.specs.Selection.{Selection, AtPause, AtAsync, First, Second, Both, Inside, Scope, Task, Start, Resume}
-use Rattle.hh_term.specs.MustCan.{Table, MustCan, Index, Executed, must_can, parallel, solve, cells_of, without}
+use Rattle.hh_term.specs.Selection.{Selection, First, Second, Both, Inside, Scope, Task, Start, Resume}
+use Rattle.hh_term.specs.MustCan.{Table, MustCan, Executed, must_can, parallel, cells_of}
 use Rattle.hh_term.specs.MustCan.{held as held_by}
 use Rattle.hh_term.specs.Step.{Stepped, ◌>>=◌, completes, rests, mark_map, wrapped, wrap, beside, trap_step, on_test}
 use Rattle.hh_term.specs.Step.{then_start, leave, scope_mark, local_step, doubled_by, overflow_by, step}
@@ -39,8 +37,9 @@ use Rattle.derived_laws.specs.CountedAborts.{AbortCountObeys, IsOwn, counting_do
 use Rattle.derived_laws.specs.CountedAborts.{counted_body, StandsBelow}
 use Rattle.derived_laws.proofs.Marks.{AnyMark, NextMark, kept, keeps}
 use Rattle.derived_laws.proofs.Aborting.{by_test_next}
+use Rattle.derived_laws.proofs.Unemitted.{its_own}
 use Rattle.derived_laws.proofs.Counting.{inside_next, watched_next, mark_counts}
-use Rattle.derived_laws.proofs.Closing.{Closed, Closes, closes_wrapped, closed}
+use Rattle.derived_laws.proofs.Closing.{Closed, closes_wrapped, closed}
 use Rattle.derived_laws.proofs.Watching.{Faults, same_steps, exited, watching, then_exit, gone_on, goes_on, weakly}
 use Rattle.derived_laws.proofs.Watching.{marks_twice}
 use Rattle.derived_laws.proofs.Turns.{Waits, count_waits, count_stands, turn_behind}
@@ -446,7 +445,7 @@ counted_next : (ws left : List Selection) (T : Table) (p : Statement) (m : Selec
 counted_next ws [] T p m f o h = tt
 counted_next ws (w ∷ left) T p m f o h = inside_next counting_down ws T p w left (f w left (now w left)) o h
 
-enter_counts : (w m : Selection) (o u : Option Selection) → u ≡ None
+pub enter_counts : (w m : Selection) (o u : Option Selection) → u ≡ None
     → option_map Inside (option_map (λ k. Scope k false value.Unit)
     (of_either (First (Inside m)) (option_map First (option_map Inside o)) (First (First w))
     (option_map First (option_map First u))))
@@ -518,4 +517,5 @@ counted_expands modules pos i d p a n s =
     ∙ sym (row_is c i (in_numbers n d) b)
 
 pub abort_count_obeys : AbortCountObeys
-abort_count_obeys = record { at_start = at_start; later = later; marks = rests_at; expands = counted_expands }
+abort_count_obeys =
+    record { own = its_own; at_start = at_start; later = later; marks = rests_at; expands = counted_expands }

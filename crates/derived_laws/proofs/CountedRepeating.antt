@@ -1,19 +1,18 @@
 -- `do .. every` and `every` with a count, from `abort count` in a loop.
-use Rattle.std.proofs.Common.{◌≡◌, refl, sym, ap, subst, ◌∙◌, ℕ, Bool, true, false, cond, Option, Some, None}
+use Rattle.std.proofs.Common.{◌≡◌, refl, ap, ◌∙◌, ℕ, Bool, true, false, cond, Option, Some, None}
 use Rattle.std.proofs.Common.{List, [], ◌∷◌, ◌++◌, map, length}
-use Rattle.std.specs.Prelude.{◌==◌, option_map}
+use Rattle.std.specs.Prelude.{option_map}
 use Rattle.hh_base.specs.declared.value.Pos.{Pos}
-use Rattle.hh_base.specs.declared.value.FaultKind.{FaultKind}
 use Rattle.host_expr.specs.declared.cell.Cell.{Cell}
 use Rattle.host_expr.specs.declared.cell.Cell.TheVariants as cell
 use Rattle.host_expr.specs.declared.cell.SigCell.{SigCell}
 use Rattle.host_expr.specs.declared.expr.Expr.{Expr}
 use Rattle.host_expr.specs.Environment.{Env, put}
 use Rattle.host_expr.specs.Evaluation.{truth}
-use Rattle.hh_term.specs.Statement.{Statement, Pause, Seq, Loop, Trap}
+use Rattle.hh_term.specs.Statement.{Statement, Pause, Seq, Loop}
 use Rattle.hh_term.specs.Selection.{Selection, AtPause, AtAsync, First, Second, Both, Inside, Scope, Task, Start, Resume}
 use Rattle.hh_term.specs.MustCan.{Table, MustCan, Index, must_can, gives, is_end, sequence, cells_of}
-use Rattle.hh_term.specs.Step.{Stepped, ◌>>=◌, completes, rests, wrapped, wrap, with_fault, joined, then_start, on_test}
+use Rattle.hh_term.specs.Step.{Stepped, ◌>>=◌, completes, rests, wrapped, wrap, joined, then_start, on_test}
 use Rattle.hh_term.specs.Step.{step}
 use Rattle.hh_term.specs.Touches.{Touch, stopped, held_touches}
 use Rattle.hh_term.specs.Placed.{unplaced}
@@ -25,7 +24,7 @@ use Rattle.derived_laws.specs.Waits.{halted}
 use Rattle.derived_laws.specs.Counts.{turns, Turn, goes_to}
 use Rattle.derived_laws.specs.CountedAborts.{IsOwn, counting_down, counted_down, counted_body, StandsBelow}
 use Rattle.derived_laws.specs.Repeats.{idle, halts_behind, begins, StaysIn}
-use Rattle.derived_laws.specs.CountedRepeats.{DoEveryCountObeys, EveryCountObeys, renewing_down, repeating_down}
+use Rattle.derived_laws.specs.CountedRepeats.{renewing_down, repeating_down}
 use Rattle.derived_laws.specs.CountedRepeats.{counted_anew, renews_counted, counted_first}
 use Rattle.derived_laws.proofs.Watching.{same_steps, marks_twice}
 use Rattle.derived_laws.proofs.Waiting.{through_test}
@@ -157,7 +156,7 @@ renewal first w rest ts (cell.Faulted o k) s q h =
 
 -- ---- `do .. every`
 
-do_starts : (T : Table) (E : Env) (c n : ℕ) (d : Expr ℕ) (p : Statement) (first : Selection) (ws : List Selection)
+pub do_starts : (T : Table) (E : Env) (c n : ℕ) (d : Expr ℕ) (p : Statement) (first : Selection) (ws : List Selection)
     → IsOwn T c d p → turns n ≡ first ∷ ws → step T (row.do_every_count (kernel c) n d p) Start E
     ≡ begins (renewing_down first) (halts_behind (step T p Start E))
 do_starts T E c n d p first ws own turned =
@@ -166,7 +165,7 @@ do_starts T E c n d p first ws own turned =
     ∙ ap (option_map (inside (counting_down first))) (halts_at (step T p Start E)))
     ∙ wrap_inside Inside (counting_down first) (halts_behind (step T p Start E))
 
-do_resumes : (T : Table) (E : Env) (c n : ℕ) (d : Expr ℕ) (p : Statement) (first w : Selection)
+pub do_resumes : (T : Table) (E : Env) (c n : ℕ) (d : Expr ℕ) (p : Statement) (first w : Selection)
     (ws rest : List Selection) (k : Selection) → IsOwn T c d p → turns n ≡ first ∷ ws → Turn (turns n) w rest
     → step T (row.do_every_count (kernel c) n d p) (Resume (renewing_down w k)) E
     ≡ then_start Inside Inside
@@ -182,7 +181,7 @@ do_resumes T E c n d p first w ws rest k own turned t =
     (at_start T E c n d (with_halt p) first ws (own_behind T c d p own) turned
     ∙ ap (option_map (inside (counting_down first))) (halts_at (step T p Start E)))
 
-do_later : (T : Table) (E : Env) (c n : ℕ) (d : Expr ℕ) (p : Statement) (first w : Selection)
+pub do_later : (T : Table) (E : Env) (c n : ℕ) (d : Expr ℕ) (p : Statement) (first w : Selection)
     (ws rest : List Selection) (m : Selection) → IsOwn T c d p → turns n ≡ first ∷ ws → Turn (turns n) w rest
     → StaysIn (step T p (Resume m) E)
     → step T (row.do_every_count (kernel c) n d p) (Resume (renewing_down w (First m))) E
@@ -198,7 +197,7 @@ do_later T E c n d p first w ws rest m own turned t h =
     ∙ renewal first w rest (map stopped (held_touches p m)) (test d E) (halts_behind (step T p (Resume m) E))
     (halts_behind (step T p Start E)) (going (step T p (Resume m) E) h)
 
-do_idle : (T : Table) (E : Env) (c n : ℕ) (d : Expr ℕ) (p : Statement) (first w : Selection)
+pub do_idle : (T : Table) (E : Env) (c n : ℕ) (d : Expr ℕ) (p : Statement) (first w : Selection)
     (ws rest : List Selection) → IsOwn T c d p → turns n ≡ first ∷ ws → Turn (turns n) w rest
     → step T (row.do_every_count (kernel c) n d p) (Resume (renewing_down w idle)) E
     ≡ renews_counted renewing_down (test d E) first w rest (completes 0) (Some (rests idle []))
@@ -207,17 +206,13 @@ do_idle T E c n d p first w ws rest own turned t =
     do_resumes T E c n d p first w ws rest idle own turned t
     ∙ renewal first w rest [] (test d E) (Some (rests idle [])) (halts_behind (step T p Start E)) refl
 
-do_expands : (modules : ℕ → Piece) (pos : Pos) (i : ℕ) (d : Expr ℕ) (p : Piece) (a : Around) (n : Numbered)
+pub do_expands : (modules : ℕ → Piece) (pos : Pos) (i : ℕ) (d : Expr ℕ) (p : Piece) (a : Around) (n : Numbered)
     → StandsBelow pos p d a n
     → unplaced (row.do_every_count (numbering modules pos) i d p a n).0
     ≡ row.do_every_count (kernel (length n.signals)) i (in_numbers n d) (counted_body pos p a n)
 do_expands modules pos i d p a n s =
     let k = numbering modules pos in
     ap (λ x. Loop x) (counted_expands modules pos i d (k.seq p (row.halt k)) a n (record { kept = s.kept }))
-
-pub do_every_count_obeys : DoEveryCountObeys
-do_every_count_obeys =
-    record { at_start = do_starts; later = do_later; when_idle = do_idle; expands = do_expands }
 
 -- ---- `every`
 
@@ -243,7 +238,7 @@ test_behind cell.Unknown x y p q h g = refl
 test_behind (cell.Known v) x y p q h g = flag_behind (truth v) x y p q h g
 test_behind (cell.Faulted o k) x y p q h g = g
 
-renews_behind : (c : Cell) (first w : Selection) (rest : List Selection) (kill : Stepped) (s q : Option Stepped)
+pub renews_behind : (c : Cell) (first w : Selection) (rest : List Selection) (kill : Stepped) (s q : Option Stepped)
     → wrap Second (renews_counted renewing_down c first w rest kill s q)
     ≡ renews_counted repeating_down c first w rest kill s q
 renews_behind c first w rest kill s q =
@@ -275,7 +270,7 @@ waits_then first w rest c q =
     (Some (rests w [])) (counted_first repeating_down first rest q) (Some (rests (First w) [])) refl
     (first_behind first rest q) refl (λ o k. refl)
 
-every_before : (T : Table) (E : Env) (c n : ℕ) (d : Expr ℕ) (p : Statement) (first w : Selection)
+pub every_before : (T : Table) (E : Env) (c n : ℕ) (d : Expr ℕ) (p : Statement) (first w : Selection)
     (ws rest : List Selection) → IsOwn T c d p → turns n ≡ first ∷ ws → Turn (turns n) w rest
     → step T (row.every_count (kernel c) n d p) (Resume (First w)) E
     ≡ on_test (test d E) (counted_first repeating_down first rest (halts_behind (step T p Start E)))
@@ -287,14 +282,14 @@ every_before T E c n d p first w ws rest own turned t =
     (do_starts T E c n d p first ws own turned)
     ∙ waits_then first w rest (test d E) (halts_behind (step T p Start E))
 
-every_starts : (T : Table) (E : Env) (c n : ℕ) (d : Expr ℕ) (p : Statement) (first : Selection)
+pub every_starts : (T : Table) (E : Env) (c n : ℕ) (d : Expr ℕ) (p : Statement) (first : Selection)
     (ws : List Selection) → turns n ≡ first ∷ ws
     → step T (row.every_count (kernel c) n d p) Start E ≡ Some (rests (First first) [])
 every_starts T E c n d p first ws turned =
     ap (λ o. then_start First Second o (step T (row.do_every_count (kernel c) n d p) Start E))
     ((count_waits T n d).start E ∙ ap goes_to turned)
 
-every_expands : (modules : ℕ → Piece) (pos : Pos) (i : ℕ) (d : Expr ℕ) (p : Piece) (a : Around) (n : Numbered)
+pub every_expands : (modules : ℕ → Piece) (pos : Pos) (i : ℕ) (d : Expr ℕ) (p : Piece) (a : Around) (n : Numbered)
     → StandsBelow pos p d a n
     → unplaced (row.every_count (numbering modules pos) i d p a n).0
     ≡ row.every_count (kernel (length n.signals)) i (in_numbers n d) (counted_body pos p a n)
@@ -305,19 +300,3 @@ every_expands modules pos i d p a n s =
     ∙ ap (λ (m : Numbered). Seq (row.await_count plain i (in_numbers n d))
     (unplaced (row.do_every_count k i d p a m).0)) w.numbers
     ∙ ap (λ x. Seq (row.await_count plain i (in_numbers n d)) x) (do_expands modules pos i d p a n s)
-
-pub every_count_obeys : EveryCountObeys
-every_count_obeys =
-    record {
-      at_start = every_starts;
-      before = every_before;
-      later = λ T E c n d p first w ws rest m own turned t h.
-          ap (wrap Second) (do_later T E c n d p first w ws rest m own turned t h)
-          ∙ renews_behind (test d E) first w rest (killed p m) (halts_behind (step T p (Resume m) E))
-          (halts_behind (step T p Start E));
-      when_idle = λ T E c n d p first w ws rest own turned t.
-          ap (wrap Second) (do_idle T E c n d p first w ws rest own turned t)
-          ∙ renews_behind (test d E) first w rest (completes 0) (Some (rests idle []))
-          (halts_behind (step T p Start E));
-      expands = every_expands;
-    }

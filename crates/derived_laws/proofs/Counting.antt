@@ -1,9 +1,8 @@
 -- `weakabort count`, from what a body does beside what counts.
 use Rattle.std.proofs.Common.{◌≡◌, refl, sym, ap, subst, ◌∙◌, ℕ, Bool, true, false, cond, Option, Some, None}
-use Rattle.std.proofs.Common.{List, [], ◌∷◌, ◌++◌, map}
+use Rattle.std.proofs.Common.{List, [], ◌∷◌}
 use Rattle.std.specs.Prelude.{option_map}
 use Rattle.hh_base.specs.declared.value.Pos.{Pos}
-use Rattle.hh_base.specs.declared.value.FaultKind.{FaultKind}
 use Rattle.hh_base.specs.declared.item.Item.{Item}
 use Rattle.host_expr.specs.declared.cell.Cell.{Cell}
 use Rattle.host_expr.specs.declared.cell.Cell.TheVariants as cell
@@ -15,12 +14,12 @@ use Rattle.hh_term.specs.Selection.{Selection, First, Second, Both, Inside, Star
 use Rattle.hh_term.specs.Touches.{held_mark}
 use Rattle.hh_term.specs.Entering.{with_item, of_either}
 use Rattle.hh_term.specs.MustCan.{Table}
-use Rattle.hh_term.specs.Step.{Stepped, ◌>>=◌, completes, rests, mark_map, with_fault, then_start, on_test, step}
+use Rattle.hh_term.specs.Step.{Stepped, completes, rests, mark_map, then_start, on_test, step}
 use Rattle.hh_term.specs.Placed.{unplaced}
 use Rattle.kernel_expand.specs.Numbering.{Piece, Around, Numbered, numbering, in_numbers, in_trap}
 use Rattle.kernel_expand.specs.Rows as row
 use Rattle.derived_laws.specs.Statements.{plain, test}
-use Rattle.derived_laws.specs.Reactions.{inside, cut, then_fault, by_test}
+use Rattle.derived_laws.specs.Reactions.{inside, then_fault, by_test}
 use Rattle.derived_laws.specs.Resting.{RestsAt, held}
 use Rattle.derived_laws.specs.Aborts.{StandsIn, body}
 use Rattle.derived_laws.specs.Counts.{WeakAbortCountObeys, CountRests, at_turn, counting, counted, turns, Turn}
@@ -28,7 +27,7 @@ use Rattle.derived_laws.specs.Counts.{now, goes_to}
 use Rattle.derived_laws.proofs.Marks.{AnyMark, NextMark, kept, keeps}
 use Rattle.derived_laws.proofs.Closing.{Closed, closed}
 use Rattle.derived_laws.proofs.Waiting.{through_test}
-use Rattle.derived_laws.proofs.Watching.{Faults, together, together_none, together_cut, together_on, watching, gone_on}
+use Rattle.derived_laws.proofs.Watching.{together, together_none, together_cut, together_on, watching, gone_on}
 use Rattle.derived_laws.proofs.Watching.{weak_start}
 use Rattle.derived_laws.proofs.Aborting.{by_test_next, cut_next}
 use Rattle.derived_laws.proofs.Turns.{Waits, count_waits, count_stands, turn_behind}

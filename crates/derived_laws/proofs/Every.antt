@@ -1,7 +1,7 @@
 -- `every`: `do .. every` behind what waits.
-use Rattle.std.proofs.Common.{◌≡◌, refl, sym, ap, subst, ◌∙◌, ℕ, Bool, true, false, cond, Option, Some, None}
-use Rattle.std.proofs.Common.{List, [], ◌∷◌, ◌++◌}
-use Rattle.std.specs.Prelude.{◌==◌, option_map}
+use Rattle.std.proofs.Common.{◌≡◌, refl, sym, ap, subst, ◌∙◌, ℕ, Option, Some, None}
+use Rattle.std.proofs.Common.{[]}
+use Rattle.std.specs.Prelude.{option_map}
 use Rattle.hh_base.specs.declared.value.Pos.{Pos}
 use Rattle.hh_base.specs.declared.value.FaultKind.{FaultKind}
 use Rattle.hh_base.specs.declared.item.Item.{Item}
@@ -9,28 +9,28 @@ use Rattle.host_expr.specs.declared.cell.Cell.{Cell}
 use Rattle.host_expr.specs.declared.cell.Cell.TheVariants as cell
 use Rattle.host_expr.specs.declared.expr.Expr.{Expr}
 use Rattle.host_expr.specs.Environment.{Env}
-use Rattle.hh_term.specs.Statement.{Statement, Seq, Loop, Trap, Par, Exit}
-use Rattle.hh_term.specs.Selection.{Selection, First, Second, Inside, Start, Resume}
+use Rattle.hh_term.specs.Statement.{Statement, Seq, Loop, Trap, Par}
+use Rattle.hh_term.specs.Selection.{Selection, First, Second, Start, Resume}
 use Rattle.hh_term.specs.Touches.{held_mark}
 use Rattle.hh_term.specs.Entering.{with_item}
 use Rattle.hh_term.specs.MustCan.{Table}
 use Rattle.hh_term.specs.Step.{Stepped, ◌>>=◌, completes, rests, mark_map, wrapped, wrap, with_fault, joined}
 use Rattle.hh_term.specs.Step.{then_start, on_test, step}
-use Rattle.kernel_expand.specs.Numbering.{Piece, Around, Numbered, numbering, in_numbers, in_trap}
+use Rattle.kernel_expand.specs.Numbering.{in_numbers, in_trap}
 use Rattle.kernel_expand.specs.Rows as row
 use Rattle.derived_laws.specs.Statements.{plain, test}
 use Rattle.derived_laws.specs.Reactions.{inside, then_fault, killed}
 use Rattle.derived_laws.specs.Resting.{RestsAt}
 use Rattle.derived_laws.specs.Waits.{awaiting, awaiting_now}
-use Rattle.derived_laws.specs.Aborts.{StandsIn, body}
+use Rattle.derived_laws.specs.Aborts.{body}
 use Rattle.derived_laws.specs.Repeats.{halts_behind, renewing, repeating, begins, renews, RenewRests, EveryRests}
-use Rattle.derived_laws.specs.Repeats.{before, behind, DoEveryObeys, EveryObeys, EveryImmediateObeys, idle, StaysIn}
-use Rattle.derived_laws.proofs.Marks.{AnyMark, NextMark, Keeps, kept}
+use Rattle.derived_laws.specs.Repeats.{before, behind, DoEveryObeys, EveryObeys, EveryImmediateObeys, idle}
+use Rattle.derived_laws.proofs.Marks.{AnyMark, NextMark, kept}
 use Rattle.derived_laws.proofs.Waiting.{through_test, await_next, await_resumes, await_now_starts, await_now_resumes}
 use Rattle.derived_laws.proofs.Watching.{same_steps, marks_twice}
 use Rattle.derived_laws.proofs.Aborting.{suspended, same_waiting}
-use Rattle.derived_laws.proofs.Repeating.{with_halt, kill_of, do_starts, do_later, do_idle, do_keeps, then_next}
-use Rattle.derived_laws.proofs.Repeating.{wrap_inside, wrap_watched}
+use Rattle.derived_laws.proofs.Repeating.{with_halt, do_starts, do_later, do_idle, do_keeps, then_next}
+use Rattle.derived_laws.proofs.Repeating.{wrap_watched}
 
 same_row : (d : Expr ℕ) (p : Statement) (e : Expr ℕ) → e ≡ d
     → Loop (Trap (Par (suspended d (with_halt p)) (row.waiting plain e))) ≡ row.do_every plain d p

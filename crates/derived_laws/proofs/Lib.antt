@@ -12,3 +12,6 @@ pub mod Solving
 pub mod Silence
 pub mod CountedAborting
 pub mod CountedRepeating
+pub mod CountedMarks
+pub mod Unmentioned
+pub mod Unemitted

@@ -1,6 +1,6 @@
 -- `do .. every` and `every`, from `abort` in a loop.
 use Rattle.std.proofs.Common.{◌≡◌, refl, sym, ap, subst, ◌∙◌, ℕ, zero, suc, Bool, true, false, cond, Option}
-use Rattle.std.proofs.Common.{Some, None, List, [], ◌∷◌, ◌++◌, map, append-nil}
+use Rattle.std.proofs.Common.{Some, None, List, [], map, append-nil}
 use Rattle.std.specs.Prelude.{◌==◌, option_map}
 use Rattle.hh_base.specs.declared.value.Pos.{Pos}
 use Rattle.hh_base.specs.declared.value.FaultKind.{FaultKind}
@@ -11,7 +11,7 @@ use Rattle.host_expr.specs.declared.expr.Expr.{Expr}
 use Rattle.host_expr.specs.Environment.{Env}
 use Rattle.host_expr.specs.Evaluation.{truth}
 use Rattle.hh_term.specs.Statement.{Statement, Pause, Seq, Loop}
-use Rattle.hh_term.specs.Selection.{Selection, First, Second, Both, Inside, Start, Resume}
+use Rattle.hh_term.specs.Selection.{Selection, First, Second, Inside, Start, Resume}
 use Rattle.hh_term.specs.Entering.{with_item, of_either}
 use Rattle.hh_term.specs.MustCan.{Table, lower}
 use Rattle.hh_term.specs.Step.{Stepped, ◌>>=◌, completes, rests, mark_map, wrapped, wrap, with_fault, joined}
@@ -23,11 +23,11 @@ use Rattle.derived_laws.specs.Reactions.{inside, then_fault, killed, preempts}
 use Rattle.derived_laws.specs.Resting.{RestsAt, held}
 use Rattle.derived_laws.specs.Waits.{halted, waiting}
 use Rattle.derived_laws.specs.Aborts.{aborting}
-use Rattle.derived_laws.specs.Repeats.{idle, then_halts, halts_behind, renewing, begins, renews, StaysIn, RenewRests}
+use Rattle.derived_laws.specs.Repeats.{idle, halts_behind, renewing, begins, renews, StaysIn, RenewRests}
 use Rattle.derived_laws.specs.Repeats.{runs, ended}
 use Rattle.derived_laws.proofs.Marks.{AnyMark, NextMark, Keeps, keeps}
 use Rattle.derived_laws.proofs.Watching.{same_steps, marks_twice, above_nought}
-use Rattle.derived_laws.proofs.Aborting.{aborts_at, aborts_later, test_next}
+use Rattle.derived_laws.proofs.Aborting.{aborts_at, aborts_later}
 
 -- ---- a body with `halt` behind it
 

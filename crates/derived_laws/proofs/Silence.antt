@@ -1,5 +1,5 @@
 -- What counts emits nothing while it waits.
-use Rattle.std.proofs.Common.{◌≡◌, refl, sym, ap, ◌∙◌, ℕ, Bool, true, false, cond, List, [], ◌∷◌, ◌++◌, map, replicate}
+use Rattle.std.proofs.Common.{◌≡◌, ap, ◌∙◌, ℕ, Bool, true, false, cond, List, [], ◌∷◌, ◌++◌, replicate}
 use Rattle.host_expr.specs.declared.cell.Cell.{Cell}
 use Rattle.host_expr.specs.declared.cell.Cell.TheVariants as cell
 use Rattle.host_expr.specs.declared.expr.Expr.{Expr}
@@ -7,7 +7,7 @@ use Rattle.host_expr.specs.Environment.{Env}
 use Rattle.host_expr.specs.Evaluation.{truth}
 use Rattle.hh_term.specs.Statement.{Statement, Nothing, Seq}
 use Rattle.hh_term.specs.Selection.{Selection, Start, Resume}
-use Rattle.hh_term.specs.MustCan.{Table, MustCan, Index, Executed, Possible, must_can, gives, is_end, sequence, chosen}
+use Rattle.hh_term.specs.MustCan.{Table, MustCan, Index, Possible, must_can, gives, is_end, sequence, chosen}
 use Rattle.kernel_expand.specs.Rows as row
 use Rattle.kernel_expand.proofs.Alike.{halves_alike}
 use Rattle.derived_laws.specs.Statements.{plain, test}

@@ -1,10 +1,9 @@
 -- A local signal, solved where its emissions do not depend on it.
 use Rattle.std.proofs.Common.{◌≡◌, refl, sym, ap, subst, ◌∙◌, ℕ, Bool, true, false, cond, Option, Some, None, List}
-use Rattle.std.proofs.Common.{[], ◌∷◌, ◌++◌, map, arith, append-nil}
+use Rattle.std.proofs.Common.{[], ◌∷◌, ◌++◌, arith, append-nil}
 use Rattle.std.specs.Prelude.{◌==◌, ◌&&◌}
 use Rattle.std.proofs.lemmas.Bool.Decides.{nat_tests}
 use Rattle.hh_base.specs.declared.value.Pos.{Pos}
-use Rattle.hh_base.specs.declared.value.Kind.{Kind}
 use Rattle.hh_base.specs.declared.value.FaultKind.{FaultKind}
 use Rattle.hh_base.specs.declared.value.FaultKind.TheVariants.{Overflow}
 use Rattle.hh_base.specs.declared.value.Value.{Value}
@@ -19,8 +18,8 @@ use Rattle.host_expr.specs.Environment.{Env, is_known, is_decided, is_present, u
 use Rattle.host_expr.specs.Evaluation.{eval_of, truth}
 use Rattle.host_expr.specs.Combination.{is_several, is_overflowed}
 use Rattle.hh_term.specs.Codes.{CodeSet, only, in_turn}
-use Rattle.hh_term.specs.MustCan.{Table, MustCan, Bag, Index, Executed, Possible, gives, one_of, is_end, sequence}
-use Rattle.hh_term.specs.MustCan.{parallel, chosen, trapped, cells_of, without, status_by, value_by, round, solve}
+use Rattle.hh_term.specs.MustCan.{Table, MustCan, Bag, Index, Executed, Possible, gives, is_end, sequence}
+use Rattle.hh_term.specs.MustCan.{cells_of, without, status_by, value_by, round, solve}
 use Rattle.hh_term.specs.MustCan.{held as held_by}
 use Rattle.hh_term.specs.Step.{Stepped, ◌>>=◌, wrapped, leave, scope_mark, local_step, doubled_by, overflow_by}
 

@@ -1,23 +1,21 @@
 -- `await count`: statements that wait one after the other, halved.
-use Rattle.std.proofs.Common.{◌≡◌, refl, sym, ap, subst, ◌∙◌, ℕ, zero, suc, ◌+◌, ◌-◌, ◌/◌, ◌≤◌, Bool, Option}
+use Rattle.std.proofs.Common.{◌≡◌, refl, sym, ap, subst, ◌∙◌, ℕ, zero, suc, ◌+◌, ◌-◌, ◌/◌, ◌≤◌}
 use Rattle.std.proofs.Common.{Some, None, List, [], ◌∷◌, ◌++◌, map, length, replicate, arith, length-append}
 use Rattle.std.specs.Prelude.{option_map}
 use Rattle.std.specs.List.{AllZip}
 use Rattle.std.proofs.lemmas.List.{length-map}
 use Rattle.hh_base.specs.declared.value.Pos.{Pos}
-use Rattle.hh_base.specs.declared.value.FaultKind.{FaultKind}
 use Rattle.hh_base.specs.declared.item.Item.{Item}
 use Rattle.host_expr.specs.declared.cell.Cell.{Cell}
-use Rattle.host_expr.specs.declared.cell.Cell.TheVariants as cell
 use Rattle.host_expr.specs.declared.expr.Expr.{Expr}
 use Rattle.host_expr.specs.Environment.{Env}
 use Rattle.hh_term.specs.Statement.{Statement, Nothing, Seq}
-use Rattle.hh_term.specs.Selection.{Selection, First, Second, Inside, Start, Resume}
+use Rattle.hh_term.specs.Selection.{Selection, First, Second, Start, Resume}
 use Rattle.hh_term.specs.Touches.{held_mark}
 use Rattle.hh_term.specs.Entering.{with_item}
 use Rattle.hh_term.specs.MustCan.{Table}
-use Rattle.hh_term.specs.Step.{Stepped, ◌>>=◌, completes, rests, wrap, with_fault, then_start, on_test, step}
-use Rattle.hh_term.specs.Placed.{Placed, unplaced}
+use Rattle.hh_term.specs.Step.{rests, wrap, then_start, on_test, step}
+use Rattle.hh_term.specs.Placed.{unplaced}
 use Rattle.kernel_expand.specs.Halves.{in_halves}
 use Rattle.kernel_expand.specs.Numbering.{Piece, Around, Numbered, numbering, in_numbers}
 use Rattle.kernel_expand.specs.Rows as row

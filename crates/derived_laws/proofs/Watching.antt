@@ -13,8 +13,8 @@ use Rattle.hh_term.specs.MustCan.{Bag, lower}
 use Rattle.hh_term.specs.Step.{Stepped, ◌>>=◌, completes, rests, mark_map, wrapped, wrap, with_fault, joined}
 use Rattle.hh_term.specs.Step.{both_marks, closed, beside, trap_step, on_test, then_start}
 use Rattle.hh_term.specs.Touches.{Touch, stopped}
-use Rattle.derived_laws.specs.Reactions.{inside, cut, fault_of, then_fault, by_test, preempts, cuts}
-use Rattle.derived_laws.proofs.Closing.{Rests, ClosedBy, Closes, Closed, closes_wrapped, closes_fault, above_one}
+use Rattle.derived_laws.specs.Reactions.{inside, cut, then_fault, preempts, cuts}
+use Rattle.derived_laws.proofs.Closing.{ClosedBy, Closes, Closed, closes_wrapped, above_one}
 
 pub same_steps : (a b : Stepped) → a.bag ≡ b.bag → a.code ≡ b.code → a.next ≡ b.next → a.touches ≡ b.touches
     → a.faults ≡ b.faults → a.doubled ≡ b.doubled → a ≡ b

@@ -6,6 +6,7 @@ use Rattle.hh_base.specs.declared.value.Value.TheVariants as value
 use Rattle.host_expr.specs.declared.expr.Expr.{Expr}
 use Rattle.host_expr.specs.declared.cell.SigCell.{SigCell}
 use Rattle.host_expr.specs.Environment.{Env, put}
+use Rattle.host_expr.specs.Expression.{expression_of}
 use Rattle.hh_term.specs.Statement.{Statement}
 use Rattle.hh_term.specs.Selection.{Selection, First, Both, Inside, Scope, Task, Start, Resume}
 use Rattle.hh_term.specs.MustCan.{Table, Index, must_can, cells_of}
@@ -15,11 +16,13 @@ use Rattle.kernel_expand.specs.Numbering.{Piece, Around, Numbered, numbering, in
 use Rattle.kernel_expand.specs.Numbering.{counter_signal}
 use Rattle.kernel_expand.specs.Rows as row
 use Rattle.derived_laws.specs.Statements.{kernel, test}
+use Rattle.derived_laws.specs.Mentions.{Unread, Unmentioned}
 use Rattle.derived_laws.specs.Reactions.{inside, killed, then_fault, by_test}
 use Rattle.derived_laws.specs.Resting.{RestsAt}
 use Rattle.derived_laws.specs.Counts.{turns, Turn, CountRests}
 
--- The signal that counts is the row's own: the test and the body neither read nor emit it, and it is pure.
+-- The signal that counts is the row's own, and pure: test and body do not depend on it, and the body does not
+-- emit it. So it is where neither mentions it.
 pub record IsOwn (T : Table) (c : ℕ) (d : Expr ℕ) (p : Statement) : Type 0 where
   pub first : T.first c ≡ value.Unit
   pub unread : (E : Env) (x : SigCell) → test d (put E c x) ≡ test d E
@@ -49,6 +52,8 @@ pub record StandsBelow (pos : Pos) (p : Piece) (d : Expr ℕ) (a : Around) (n : 
 
 -- the body reacts until the test holds in the n-th later reaction, in which it is killed
 pub record AbortCountObeys : Type 0 where
+  pub own : (T : Table) (c : ℕ) (d : Expr ℕ) (p : Statement) → T.first c ≡ value.Unit
+      → Unread c (expression_of d) → Unmentioned T c p → IsOwn T c d p
   pub at_start : (T : Table) (E : Env) (c n : ℕ) (d : Expr ℕ) (p : Statement) (w : Selection)
       (ws : List Selection) → IsOwn T c d p → turns n ≡ w ∷ ws →
       step T (row.abort_count (kernel c) n d p) Start E ≡ option_map (inside (counting_down w)) (step T p Start E)

@@ -45,6 +45,16 @@ abbrev pub counted_first : (Selection → Selection → Selection) → Selection
 counted_first f first [] p = begins (f first) p
 counted_first f first (w ∷ ws) p = Some (rests (First w) [])
 
+pub data CountRenewRests (f : Selection → Selection → Selection) (ws : List Selection) (T : Table) (p : Statement)
+    : Selection → Type 0 where
+  runs : (w : Selection) (rest : List Selection) (m : Selection) → Turn ws w rest → RestsAt T p m
+      → CountRenewRests f ws T p (f w (First m))
+  ended : (w : Selection) (rest : List Selection) → Turn ws w rest → CountRenewRests f ws T p (f w idle)
+
+pub data EveryCountRests (ws : List Selection) (T : Table) (p : Statement) : Selection → Type 0 where
+  before : (w : Selection) (rest : List Selection) → Turn ws w rest → EveryCountRests ws T p (First w)
+  behind : (n : Selection) → CountRenewRests renewing_down ws T p n → EveryCountRests ws T p (Second n)
+
 -- the body is started, and starts anew each n-th time that the test holds; what ran is killed
 pub record DoEveryCountObeys : Type 0 where
   pub at_start : (T : Table) (E : Env) (c n : ℕ) (d : Expr ℕ) (p : Statement) (first : Selection)
@@ -62,6 +72,9 @@ pub record DoEveryCountObeys : Type 0 where
       step T (row.do_every_count (kernel c) n d p) (Resume (renewing_down w idle)) E
       ≡ renews_counted renewing_down (test d E) first w rest (completes 0) (Some (rests idle []))
       (halts_behind (step T p Start E))
+  pub marks : (T : Table) (c n : ℕ) (d : Expr ℕ) (p : Statement) (first : Selection) (ws : List Selection)
+      (m : Selection) → IsOwn T c d p → turns n ≡ first ∷ ws → RestsAt T (row.do_every_count (kernel c) n d p) m
+      → CountRenewRests renewing_down (turns n) T p m
   pub expands : (modules : ℕ → Piece) (pos : Pos) (i : ℕ) (d : Expr ℕ) (p : Piece) (a : Around) (n : Numbered)
       → StandsBelow pos p d a n →
       unplaced (row.do_every_count (numbering modules pos) i d p a n).0
@@ -88,6 +101,9 @@ pub record EveryCountObeys : Type 0 where
       step T (row.every_count (kernel c) n d p) (Resume (repeating_down w idle)) E
       ≡ renews_counted repeating_down (test d E) first w rest (completes 0) (Some (rests idle []))
       (halts_behind (step T p Start E))
+  pub marks : (T : Table) (c n : ℕ) (d : Expr ℕ) (p : Statement) (first : Selection) (ws : List Selection)
+      (m : Selection) → IsOwn T c d p → turns n ≡ first ∷ ws → RestsAt T (row.every_count (kernel c) n d p) m
+      → EveryCountRests (turns n) T p m
   pub expands : (modules : ℕ → Piece) (pos : Pos) (i : ℕ) (d : Expr ℕ) (p : Piece) (a : Around) (n : Numbered)
       → StandsBelow pos p d a n →
       unplaced (row.every_count (numbering modules pos) i d p a n).0

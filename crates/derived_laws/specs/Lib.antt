@@ -8,3 +8,4 @@ pub mod Repeats
 pub mod Counts
 pub mod CountedAborts
 pub mod CountedRepeats
+pub mod Mentions

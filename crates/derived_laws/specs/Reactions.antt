@@ -1,6 +1,6 @@
 -- What a statement with a body does in a reaction, from what the body does. (After the preemptions of Berry,
 -- The Esterel v5 Language Primer; codes, marks, touches and faults are this project's own.)
-use Rattle.std.specs.Prelude.{ℕ, true, false, cond, max, Option, Some, None, List, [], ◌∷◌, ◌++◌, map}
+use Rattle.std.specs.Prelude.{cond, max, Option, Some, None, List, [], ◌∷◌, ◌++◌, map}
 use Rattle.std.specs.Prelude.{option_map}
 use Rattle.hh_base.specs.declared.value.Pos.{Pos}
 use Rattle.hh_base.specs.declared.value.FaultKind.{FaultKind}

@@ -1,11 +1,11 @@
 -- The kernel's statements as a meaning of the rows: what a row is, where its parts are statements already.
 -- (Berry's kernel, The Constructive Semantics of Pure Esterel; the rows are those of HipHop.js.)
-use Rattle.std.specs.Prelude.{ℕ, Option, None, []}
+use Rattle.std.specs.Prelude.{ℕ, None, []}
 use Rattle.host_expr.specs.declared.expr.Expr.{Expr}
 use Rattle.host_expr.specs.Environment.{Env}
 use Rattle.host_expr.specs.declared.cell.Cell.{Cell}
 use Rattle.host_expr.specs.Evaluation.{eval_of}
-use Rattle.host_expr.specs.Expression.{Expression, Now, expression_of, optional_expression}
+use Rattle.host_expr.specs.Expression.{Now, expression_of, optional_expression}
 use Rattle.hh_term.specs.Statement.{Statement, Nothing, Pause, Emit, If, Suspend, Seq, Par, Loop, Trap, Exit}
 use Rattle.hh_term.specs.Statement.{Local}
 use Rattle.kernel_expand.specs.Operations.{Operations}
