@@ -1,0 +1,2 @@
+pub mod TwoOptions
+pub mod Taken

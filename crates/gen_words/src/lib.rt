@@ -1,0 +1,4 @@
+//! The words of the command `gen`.
+#![tactic(auto)]
+
+pub mod order;
