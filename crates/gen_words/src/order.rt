@@ -1,6 +1,6 @@
 //! What the words of `gen` ask for, read by `clap`.
 
-ghost use Rattle.std.specs.Prelude.{◌≡◌, ◌≢◌, ◌≤◌, ◌<◌, ◌^◌, ℕ, Some, [], codes, map, length, slice_get, take, IfOk, IsErrOf, IsSomeAnd};
+ghost use Rattle.std.specs.Prelude.{◌≡◌, ◌≢◌, ◌≤◌, ◌<◌, ◌^◌, ℕ, Some, [], map, length, slice_get, IfOk, IsErrOf, IsSomeAnd};
 ghost use Rattle.clap.specs.Words.{IsParsedFrom, app_of, fault_of, found_of, kind_of, rule_of};
 ghost use Rattle.clap.specs.declared.error.kind.ErrorKind.TheVariants.{OutOfMemory};
 ghost use Rattle.clap.specs.declared.parser.matches.ArgMatches.{ArgMatches as TheMatches};

@@ -1,4 +1,4 @@
-use Rattle.std.proofs.Common.{◌≡◌, ◌∙◌, ap, arith, map}
+use Rattle.std.proofs.Common.{◌∙◌, ap, arith, map}
 use Rattle.std.specs.Borrow.{Bor}
 use Rattle.clap.specs.Words.{Text}
 use Rattle.gen_words.proofs.Taken.{order_of}
