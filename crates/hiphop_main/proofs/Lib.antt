@@ -5,3 +5,6 @@ pub mod Refusals
 pub mod Scripts
 pub mod Plays
 pub mod Starts
+pub mod Counts
+pub mod Gens
+pub mod Dispatch

@@ -47,22 +47,22 @@ consumed_within (Some xs) (Some ys) told bytes e c =
 -- ---- what is refused
 
 -- the causes that refuse an input
-bad_is : (hooks : List Promise) (input : List ℕ) (due : Cause) → IsBad hooks input due → (due ≢ Fine) × (due ≢ Usage)
+pub bad_is : (hooks : List Promise) (input : List ℕ) (due : Cause) → IsBad hooks input due → (due ≢ Fine) × (due ≢ Usage)
 bad_is hooks input _ (of_module {f} h) = (λ e. cc, λ e. cc)
 bad_is hooks input _ (of_hooks {at} h) = (λ e. cc, λ e. cc)
 bad_is hooks input _ (of_scenario {n} h) = (λ e. cc, λ e. cc)
 
-ends_fine : (due cause : Cause) (text : List ℕ) (old new : SinkState) → Ends due text old new cause → cause ≡ Fine → due ≡ Fine
+pub ends_fine : (due cause : Cause) (text : List ℕ) (old new : SinkState) → Ends due text old new cause → cause ≡ Fine → due ≡ Fine
 ends_fine due cause text old new (whole p) h = h
 ends_fine due cause text old new (out_of_memory p) h = cc
 ends_fine due cause text old new (failed p) h = cc
 
-ends_command : (due cause : Cause) (text : List ℕ) (old new : SinkState) → Ends due text old new cause → due ≢ Usage → cause ≢ Usage
+pub ends_command : (due cause : Cause) (text : List ℕ) (old new : SinkState) → Ends due text old new cause → due ≢ Usage → cause ≢ Usage
 ends_command due cause text old new (whole p) n = n
 ends_command due cause text old new (out_of_memory p) n = λ h. cc
 ends_command due cause text old new (failed p) n = λ h. cc
 
-ends_complete : (x : Exchange) (due cause : Cause) (text : List ℕ) → Ends due text x.sink_before x.sink_after cause
+pub ends_complete : (x : Exchange) (due cause : Cause) (text : List ℕ) → Ends due text x.sink_before x.sink_after cause
     → CompletesUnlessCutOff x due → CompletesUnlessCutOff x cause
 ends_complete x due cause text (whole p) c = c
 ends_complete x due cause text (out_of_memory p) c = tt
@@ -83,7 +83,7 @@ fault_complete : (x : Exchange) (text : List ℕ) (fault : SinkFault) → CutsOf
 fault_complete x text sink_fault.Failed c = c.fault
 fault_complete x text sink_fault.NoMemory c = tt
 
-input_fine : (hooks : List Promise) (input : List ℕ) (old new : SinkState) (cause : Cause) → InputPlayed hooks input old new cause
+pub input_fine : (hooks : List Promise) (input : List ℕ) (old new : SinkState) (cause : Cause) → InputPlayed hooks input old new cause
     → cause ≡ Fine → (text : List ℕ) × IsLogText hooks input text [] × Puts old new text
 input_fine hooks input old new _ (refused {due} {cause = last} r e) h =
     absurd ((bad_is hooks input due r.bad).0 (ends_fine due last _ old new e h))

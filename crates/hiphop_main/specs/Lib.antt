@@ -6,4 +6,6 @@ pub mod Exchange
 pub mod Play
 pub mod Scripts
 pub mod Readiness
+pub mod Summary
+pub mod Gen
 pub mod Obeys

@@ -6,6 +6,7 @@ ghost use Rattle.hiphop_main.specs.Exchange.{exchange};
 ghost use Rattle.hiphop_main.specs.Obeys.{IsPlay, Obeys};
 
 use crate::ending::Cause;
+use crate::generator::{gen_run, is_gen};
 use crate::play::play;
 use crate::refusal::refuse;
 use hh_base::command_line::CommandLine;
@@ -26,7 +27,7 @@ fn is_play(words: &CommandLine) -> bool
 
 /// Does what the words ask for, where these hooks are stored, and answers how that ended: the exit status is
 /// `status` of the answer.
-/// `play` is the one command so far, and all other words are answered by the usage line.
+/// `play` and `gen` are the commands so far, and all other words are answered by the usage line.
 pub fn hiphop<S: Source, K: Sink>(
     alloc: Global,
     words: &CommandLine,
@@ -39,6 +40,8 @@ pub fn hiphop<S: Source, K: Sink>(
 {
     if is_play(words) {
         play(alloc, hooks, source, sink)
+    } else if is_gen(words) {
+        gen_run(alloc, words, hooks, sink)
     } else {
         refuse(alloc, sink, Cause::Usage)
     }

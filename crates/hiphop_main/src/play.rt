@@ -84,7 +84,7 @@ fn refuse_input<K: Sink>(alloc: Global, sink: &mut K, cause: Cause) -> Cause
 }
 
 /// Plays an input that was read whole.
-fn play_input<K: Sink>(alloc: Global, input: &[u8], hooks: &HookTable, sink: &mut K) -> Cause
+pub fn play_input<K: Sink>(alloc: Global, input: &[u8], hooks: &HookTable, sink: &mut K) -> Cause
     requires { length input.now ≤ INPUT_LIMIT }
     ensures { InputPlayed (promises_of hooks.now) input.now (K.state sink.old) (K.state sink.new) result }
 {

@@ -24,8 +24,8 @@ pub fn split(input: &[u8]) -> (&[u8], &[u8])
     (input, rest)
 }
 
-// How many bytes the first line has, its LF among them.
-fn line_len(bytes: &[u8]) -> usize
+/// How many bytes the first line has, its LF among them.
+pub fn line_len(bytes: &[u8]) -> usize
     requires { 0 < length bytes.now }
     ensures some { 0 < result }
     ensures within { result ≤ length bytes.now }

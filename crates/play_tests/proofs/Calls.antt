@@ -12,11 +12,17 @@ use Rattle.hiphop_main.specs.declared.ending.Cause.TheVariants.{Fine, ReadFault,
 use Rattle.hiphop_main.specs.declared.limits.TheConstants.{INPUT_LIMIT}
 use Rattle.hiphop_main.specs.Ends.{Ends, whole, out_of_memory, failed}
 use Rattle.hiphop_main.specs.Exchange.{Exchange, exchange}
-use Rattle.hiphop_main.specs.Obeys.{IsPlay, Obeys, plays, says_usage, play}
-use Rattle.hiphop_main.specs.Play.{IsInput, IsLogText, IsBad, of_module, of_hooks, of_scenario, cause_of}
+use Rattle.hiphop_main.specs.Gen.{IsGen, SumsUp, sums_up, refuses, lacks_memory}
+use Rattle.hiphop_main.specs.Obeys.{IsPlay, Obeys, plays, gens, unanswered as unordered, says_usage, play, gen}
+use Rattle.hiphop_main.specs.Play.{IsInput, IsLogText, IsBad, IsRefusedInput, of_module, of_hooks, of_scenario, cause_of}
 use Rattle.hiphop_main.specs.Play.{InputPlayed, refused, played, cut_off, unanswered, Played, read, too_long, read_fault, no_memory}
 use Rattle.play_tests.specs.InMemory.{EndsInMemory, all, cut_off as cut_short, InputInMemory, refused_in, played_in, cut_in}
-use Rattle.play_tests.specs.InMemory.{PlaysInMemory, within, beyond, nothing, ObeysInMemory, plays_in, says_in}
+use Rattle.hiphop_main.specs.Status.{refusal_line}
+use Rattle.hiphop_main.specs.Summary.{summary}
+use Rattle.hiphop_main.proofs.Dispatch.{order_once, play_is_no_gen}
+use Rattle.scenario_make.specs.Make.{made}
+use Rattle.play_tests.specs.InMemory.{PlaysInMemory, within, beyond, nothing, ObeysInMemory, plays_in, gens_in, unanswered_in, says_in}
+use Rattle.play_tests.specs.InMemory.{GensInMemory, summed_in, refused_made, nothing_made, IsSummary}
 
 -- the states of a source and of a sink in memory
 abbrev source_of : List ℕ → SourceState
@@ -60,9 +66,16 @@ plays_of hooks input rest text _ (too_long {cause = last} t e) =
 plays_of hooks input rest text cause (read_fault f s) = absurd (let fault = f.fault in let no_fault : ⊥ = omega arith in no_fault)
 plays_of hooks input rest text cause (no_memory g s) = nothing (same_text text s)
 
+gens_of : (hooks : List Promise) (seed size : ℕ) (text : List ℕ) (cause : Cause) → SumsUp hooks seed size (sink_of []) (sink_of text) cause → GensInMemory hooks seed size text cause
+gens_of hooks seed size text _ (sums_up {text = log} {cause = last} l e) = summed_in {log = log} l (ends_of Fine last _ text e)
+gens_of hooks seed size text _ (refuses {due} {cause = last} r e) = refused_made r (ends_of due last _ text e)
+gens_of hooks seed size text _ (lacks_memory s) = nothing_made (same_text text s)
+
 obeys_of : (hooks : List Promise) (words : List (List ℕ)) (input rest text : List ℕ) (cause : Cause) → Obeys hooks words (call_of input rest text) cause
     → ObeysInMemory hooks words input text cause
 obeys_of hooks words input rest text cause (plays p o) = plays_in p (plays_of hooks input rest text cause o.ends)
+obeys_of hooks words input rest text cause (gens {seed} {size} w o) = gens_in w (gens_of hooks seed size text cause o.ends)
+obeys_of hooks words input rest text cause (unordered w u) = unanswered_in w u.lacks_memory (same_text text u.unwritten)
 obeys_of hooks words input rest text cause (says_usage n u) = says_in n (ends_of Usage cause _ text u.line)
 
 -- the same of the values of the code
@@ -97,10 +110,30 @@ plays_fine hooks input text _ (within {cause = last} few i) h = input_fine hooks
 plays_fine hooks input text _ (beyond {cause = last} more e) h = let f = (ends_fine TooLong last _ text e h).0 in cc
 plays_fine hooks input text cause (nothing e) h = cc
 
-pub log : (hooks : List Promise) (words : List (List ℕ)) (input text : List ℕ) (cause : Cause) → ObeysInMemory hooks words input text cause → cause ≡ Fine
+pub log : (hooks : List Promise) (words : List (List ℕ)) (input text : List ℕ) (cause : Cause) → ObeysInMemory hooks words input text cause → IsPlay words → cause ≡ Fine
     → IsLogText hooks input text []
-log hooks words input text cause (plays_in p o) h = plays_fine hooks input text cause o h
-log hooks words input text cause (says_in n e) h = let f = (ends_fine Usage cause _ text e h).0 in cc
+log hooks words input text cause (plays_in p o) is h = plays_fine hooks input text cause o h
+log hooks words input text cause (gens_in w o) is h = absurd (play_is_no_gen words is w.word)
+log hooks words input text cause (unanswered_in w m s) is h = absurd (play_is_no_gen words is w)
+log hooks words input text cause (says_in n e) is h = absurd (n (play is))
+
+gens_fine : (hooks : List Promise) (seed size : ℕ) (text : List ℕ) (cause : Cause) → GensInMemory hooks seed size text cause → cause ≡ Fine → IsSummary hooks seed size text
+gens_fine hooks seed size text _ (summed_in {log} {cause = last} l e) h = record { log = log; log_is = l; text_is = (ends_fine Fine last _ text e h).1 }
+gens_fine hooks seed size text _ (refused_made {due} {cause = last} r e) h = absurd ((bad_is_due hooks (made seed size) due r.bad).0 (ends_fine due last _ text e h).0)
+gens_fine hooks seed size text _ (nothing_made e) h = cc
+
+no_fine : (cause : Cause) → cause ≡ NoMemory → cause ≡ Fine → ⊥
+no_fine cause m h = cc
+
+-- a call of `gen` that is fine has written a summary
+pub summed : (hooks : List Promise) (words : List (List ℕ)) (input text : List ℕ) (cause : Cause) → ObeysInMemory hooks words input text cause → (seed size : ℕ) → IsGen words seed size
+    → cause ≡ Fine → IsSummary hooks seed size text
+summed hooks words input text cause (plays_in p o) seed size is h = absurd (play_is_no_gen words p is.word)
+summed hooks words input text cause (gens_in {seed = one} {size = other} w o) seed size is h =
+    let same = order_once words one seed other size w.order is.order in
+    subst (λ (k : ℕ). IsSummary hooks k size text) same.0 (subst (λ (k : ℕ). IsSummary hooks one k text) same.1 (gens_fine hooks one other text cause o h))
+summed hooks words input text cause (unanswered_in w m s) seed size is h = absurd (no_fine cause m h)
+summed hooks words input text cause (says_in n e) seed size is h = absurd (n (gen is))
 
 input_complete : (hooks : List Promise) (input text : List ℕ) (cause : Cause) (p : Program) (ls : List Line) → InputInMemory hooks input text cause → IsInput hooks input p ls
     → (cause ≡ Fine) ⊎ (cause ≡ NoMemory)
@@ -117,6 +150,8 @@ plays_complete hooks input text cause p ls (nothing e) le i = inr refl
 pub complete : (hooks : List Promise) (words : List (List ℕ)) (input text : List ℕ) (cause : Cause) → ObeysInMemory hooks words input text cause → IsPlay words
     → length input ≤ INPUT_LIMIT → (p : Program) (ls : List Line) → IsInput hooks input p ls → (cause ≡ Fine) ⊎ (cause ≡ NoMemory)
 complete hooks words input text cause (plays_in w o) is le p ls i = plays_complete hooks input text cause p ls o le i
+complete hooks words input text cause (gens_in w o) is le p ls i = absurd (play_is_no_gen words is w.word)
+complete hooks words input text cause (unanswered_in w m s) is le p ls i = inr m
 complete hooks words input text cause (says_in n e) is le p ls i = absurd (n (play is))
 
 -- no call ends with a fault
@@ -138,6 +173,17 @@ plays_quiet hooks input text _ (within {cause = last} few i) = input_quiet hooks
 plays_quiet hooks input text _ (beyond {cause = last} more e) = ends_quiet TooLong last _ text e (λ h. cc, λ h. cc)
 plays_quiet hooks input text cause (nothing e) = (λ h. cc, λ h. cc)
 
+gens_quiet : (hooks : List Promise) (seed size : ℕ) (text : List ℕ) (cause : Cause) → GensInMemory hooks seed size text cause → NoFault cause
+gens_quiet hooks seed size text _ (summed_in {log} {cause = last} l e) = ends_quiet Fine last _ text e (λ h. cc, λ h. cc)
+gens_quiet hooks seed size text _ (refused_made {due} {cause = last} r e) =
+    let d = bad_is_due hooks (made seed size) due r.bad in ends_quiet due last _ text e (d.1, d.2)
+gens_quiet hooks seed size text _ (nothing_made e) = (λ h. cc, λ h. cc)
+
+short_is : (cause other : Cause) → cause ≡ NoMemory → cause ≡ other → (NoMemory ≡ other → ⊥) → ⊥
+short_is cause other m h none = none (sym m ∙ h)
+
 pub quiet : (hooks : List Promise) (words : List (List ℕ)) (input text : List ℕ) (cause : Cause) → ObeysInMemory hooks words input text cause → (cause ≢ ReadFault) × (cause ≢ WriteFault)
 quiet hooks words input text cause (plays_in p o) = plays_quiet hooks input text cause o
+quiet hooks words input text cause (gens_in {seed} {size} w o) = gens_quiet hooks seed size text cause o
+quiet hooks words input text cause (unanswered_in w m s) = (λ h. short_is cause ReadFault m h (λ e. cc), λ h. short_is cause WriteFault m h (λ e. cc))
 quiet hooks words input text cause (says_in n e) = ends_quiet Usage cause _ text e (λ h. cc, λ h. cc)

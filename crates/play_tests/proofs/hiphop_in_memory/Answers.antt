@@ -1,4 +1,4 @@
-use Rattle.play_tests.proofs.Calls.{obeys, log, complete, quiet}
+use Rattle.play_tests.proofs.Calls.{obeys, log, summed, complete, quiet}
 use Rattle.play_tests.proofs.hiphop_in_memory.Goals as goal
 
 obeyed : goal.returns-clause-obeys
@@ -9,6 +9,9 @@ returns-clause-obeys g c = obeyed g c
 
 pub returns-clause-log : goal.returns-clause-log
 returns-clause-log g c = log _ _ _ _ _ (obeyed g c)
+
+pub returns-clause-summed : goal.returns-clause-summed
+returns-clause-summed g c = summed _ _ _ _ _ (obeyed g c)
 
 pub returns-clause-complete : goal.returns-clause-complete
 returns-clause-complete g c = complete _ _ _ _ _ (obeyed g c)
