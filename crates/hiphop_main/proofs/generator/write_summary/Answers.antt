@@ -1,7 +1,7 @@
 use Rattle.std.proofs.Common.{◌∙◌, subst}
 use Rattle.hh_io.specs.SinkState.{Puts, PutsPart, FailsPutting}
 use Rattle.hiphop_main.specs.Ends.{whole, out_of_memory, failed}
-use Rattle.hiphop_main.proofs.Puts.{puts_no_part}
+use Rattle.scenario_play.proofs.Puts.{puts_no_part}
 use Rattle.hiphop_main.proofs.generator.write_summary.Goals as goal
 
 pub returns-in_default : goal.returns-in_default
