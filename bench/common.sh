@@ -84,17 +84,6 @@ measure_play() { # UNIT SIZES NAME: times `play` on the input NAME of each of th
         before=$took
     done
 }
-generated() { # BRANCHES: a fork of so many loops, repetitions and counted aborts, by a sequence of numbers, and 100 reactions
-    python3 - "$1" <<'P'
-import sys
-branches = ["loop { emit N(1); pause; }", "every (A.now) { emit N(2); }", "abort count(3, A.now) { sustain N(3); }"]
-x = 0
-print("module Gen(in A, out N: int combine plus) {")
-for i in range(int(sys.argv[1])):
-    x = (x * 6364136223846793005 + 1442695040888963407) % 2**64
-    print("fork" if i == 0 else "par", "{", branches[(x >> 33) % 3], "}")
-print("}\n%% scenario")
-for i in range(50):
-    print("react\nreact A")
-P
+generated() { # BRANCHES: what `hiphop gen` makes of the seed 0, a fork of loops, repetitions and counted aborts, with 100 reactions
+    "$top/tools/made" 0 "$1"
 }
