@@ -22,8 +22,8 @@ use module_token::punct::Punct;
 use module_token::token::Token;
 use module_tree::limits::COUNT_LIMIT;
 use module_tree::source::NameAt;
-use sqlite_items::Items;
-use std::alloc::Global;
+use sqlite_items::{Boxed, Items};
+use std::alloc::{AllocError, Global};
 use std::marker::Model;
 
 /// The largest integer: the largest number that an expression has.
@@ -382,6 +382,13 @@ impl<'a> Reader<'a> {
         ensures { result.items ≡ [] }
     {
         Vec::new(self.alloc)
+    }
+
+    /// The value in a block of memory of its own.
+    pub fn boxed<T: Drop>(&self, value: T) -> Result<Boxed<T>, AllocError>
+        ensures { IfOk result (λ b. b ≡ value) }
+    {
+        Boxed::new(self.alloc, value)
     }
 
     // ---- the end

@@ -107,7 +107,7 @@ fn of_statement(
         ),
         Statement::Trap(_, block) => of_block(alloc, block, modules)?.trapped(),
         Statement::Run(module, _) => module_at(modules, module.name),
-        Statement::Async(node) => Sizes::site(weights::of_site(node)),
+        Statement::Async(node) => Sizes::site(weights::of_site(node.get())),
     })
 }
 

@@ -17,6 +17,7 @@ use module_link::copies::copy_text;
 use module_link::places::Places;
 use module_link::text::Text;
 use module_tree::source::{AsyncNode, Binding, Delay, ExprAt, NameAt, Statement};
+use sqlite_items::Boxed;
 use std::alloc::Global;
 
 fn asynchronous(
@@ -125,5 +126,5 @@ pub fn starts(
         (resolved_async text.now.parts.now c node.now)) }
 {
     let node = asynchronous(alloc, text, places, node)?;
-    Ok(Statement::Async(node))
+    Ok(Statement::Async(Boxed::new(alloc, node)?))
 }

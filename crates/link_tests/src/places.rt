@@ -95,9 +95,9 @@ fn places(alloc: Global, statement: &Statement<u32>) -> Result<String, Fail> {
             let bound = bindings(alloc, bound.as_slice())?;
             format!(in alloc; "{}({bound})", module.name)?
         }
-        Statement::Async(call) => match &call.signal {
-            Some(signal) => format!(in alloc; "{}>{}", call.body.name, signal.name)?,
-            None => format!(in alloc; "{}", call.body.name)?,
+        Statement::Async(call) => match &call.get().signal {
+            Some(signal) => format!(in alloc; "{}>{}", call.get().body.name, signal.name)?,
+            None => format!(in alloc; "{}", call.get().body.name)?,
         },
         _ => String::from_str(alloc, "-")?,
     })

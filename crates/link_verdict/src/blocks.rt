@@ -236,7 +236,7 @@ fn over_statement(
         Statement::Trap(name, block) => within_trap(walker, alloc, text, name, block),
         Statement::Break(trap) => over_break(walker, text, trap),
         Statement::Run(callee, bindings) => walker.call(alloc, text, callee, bindings.as_slice()),
-        Statement::Async(node) => over_async(walker, text, node),
+        Statement::Async(node) => over_async(walker, text, node.get()),
     }
 }
 

@@ -124,14 +124,14 @@ fn read_async_call(reader: &mut Reader<'_>, room: u8) -> Result<StatementNode<Na
     let suspend = read_handler(reader, Keyword::Suspend)?;
     let resume = read_handler(reader, Keyword::Resume)?;
     reader.punct(Punct::Semicolon)?;
-    let node = AsyncNode {
+    let node = reader.boxed(AsyncNode {
         signal,
         body,
         args,
         kill,
         suspend,
         resume,
-    };
+    })?;
     Ok(statement_at(pos, Statement::Async(node)))
 }
 

@@ -10,7 +10,7 @@ use hh_base::name::Name;
 use hh_base::text::Text;
 use hh_base::value::{CombineWord, Dir, Kind, Pos, Value};
 use host_expr::expr::Expr;
-use sqlite_items::Items;
+use sqlite_items::{Boxed, Items};
 use std::marker::Model;
 
 /// A name that the text refers to.
@@ -105,7 +105,8 @@ pub struct StatementNode<R: Drop> {
     pub what: Statement<R>,
 }
 
-/// A statement, by its words. The truth in `Suspend` says whether it has the word `immediate`.
+/// A statement, by its words. The truth in `Suspend` says whether it has the word `immediate`. What is written of
+/// `async` is the largest by far, and has a block of memory of its own.
 #[cycle(source)]
 #[derive(Drop)]
 pub enum Statement<R: Drop> {
@@ -128,7 +129,7 @@ pub enum Statement<R: Drop> {
     Trap(Name, BlockNode<R>),
     Break(NameAt<R>),
     Run(NameAt<R>, Items<Binding<R>>),
-    Async(AsyncNode<R>),
+    Async(Boxed<AsyncNode<R>>),
 }
 
 /// What a statement waits for.

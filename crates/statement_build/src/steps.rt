@@ -389,7 +389,7 @@ impl Builder {
             Statement::Trap(_, block) => Ok(Step::Inside(plain(self.trap(at, around)?), block)),
             Statement::Break(trap) => Ok(Step::Done(at.exit(around.traps_to(trap.name)?))),
             Statement::Run(module, bindings) => Ok(Step::Run(module.name, bindings.as_slice())),
-            Statement::Async(node) => Ok(Step::Done(at.site(self.add_site(at.alloc, node)?))),
+            Statement::Async(node) => Ok(Step::Done(at.site(self.add_site(at.alloc, node.get())?))),
         }
     }
 }

@@ -305,7 +305,7 @@ impl Printer {
             Statement::Trap(name, block) => self.trap(name, block),
             Statement::Break(trap) => self.leave(trap),
             Statement::Run(callee, bindings) => self.run(callee, bindings.as_slice()),
-            Statement::Async(node) => self.asynchronous(node),
+            Statement::Async(node) => self.asynchronous(node.get()),
         }
     }
 
