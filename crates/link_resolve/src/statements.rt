@@ -118,13 +118,13 @@ pub fn starts(
     alloc: Global,
     text: &Text<'_>,
     places: &Places,
-    node: &AsyncNode<Name>,
+    node: &Boxed<AsyncNode<Name>>,
 ) -> Result<Statement<u32>, NoMemory>
     requires places { ArePlaces places.now }
     requires text { IsText text.now }
     ensures { (c : InScope) → Shows places.now c → IfOk result (λ s. s ≡ v.Async
         (resolved_async text.now.parts.now c node.now)) }
 {
-    let node = asynchronous(alloc, text, places, node)?;
+    let node = asynchronous(alloc, text, places, node.get())?;
     Ok(Statement::Async(Boxed::new(alloc, node)?))
 }

@@ -314,7 +314,7 @@ fn resolve_statement(
         Statement::Trap(name, block) => trapped(alloc, text, places, name, block),
         Statement::Break(name) => Ok(breaks(places, name)),
         Statement::Run(callee, written) => run(alloc, text, places, callee, written.as_slice()),
-        Statement::Async(node) => starts(alloc, text, places, node.get()),
+        Statement::Async(node) => starts(alloc, text, places, node),
     }
 }
 
