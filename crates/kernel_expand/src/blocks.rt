@@ -80,12 +80,12 @@ fn of_statement(
         Statement::Sustain(_, value) => rows::sustain(value),
         Statement::If(test, then, None) => {
             let then = of_block(alloc, then, modules)?;
-            then.both(Sizes::leaf(0), weights::of_test(test))
+            then.both(Sizes::leaf(0), weights::of_test(test.get()))
         }
         Statement::If(test, then, Some(other)) => {
             let then = of_block(alloc, then, modules)?;
             let other = of_block(alloc, other, modules)?;
-            then.both(other, weights::of_test(test))
+            then.both(other, weights::of_test(test.get()))
         }
         Statement::Loop(block) => of_block(alloc, block, modules)?.looped(),
         Statement::Fork(blocks) => of_branches(alloc, blocks.as_slice(), modules)?,

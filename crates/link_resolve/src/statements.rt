@@ -114,6 +114,18 @@ pub fn run(
     Ok(Statement::Run(callee, bindings))
 }
 
+pub fn tested(
+    alloc: Global,
+    places: &Places,
+    test: &Boxed<ExprAt<Name>>,
+) -> Result<Boxed<ExprAt<u32>>, NoMemory>
+    requires { ArePlaces places.now }
+    ensures { (c : InScope) → Shows places.now c → IfOk result (λ e. e ≡ resolved c test.now) }
+{
+    let test = places.expression(alloc, test.get())?;
+    Ok(Boxed::new(alloc, test)?)
+}
+
 pub fn starts(
     alloc: Global,
     text: &Text<'_>,

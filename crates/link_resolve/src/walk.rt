@@ -9,7 +9,7 @@ ghost use Rattle.module_link.specs.Texts.{IsText};
 ghost use Rattle.link_resolve.specs.Walking.{Resolves, resolved_statement, resolved_node, behind_signals, inside_trap};
 
 use crate::scopes::{enter_signals, enter_trap};
-use crate::statements::{awaits, breaks, emit, run, starts, sustain};
+use crate::statements::{awaits, breaks, emit, run, starts, sustain, tested};
 use hh_base::memory::NoMemory;
 use hh_base::name::Name;
 use module_link::copies::copy_signals;
@@ -292,7 +292,7 @@ fn resolve_statement(
         Statement::Emit(name, value) => emit(alloc, places, name, value),
         Statement::Sustain(name, value) => sustain(alloc, places, name, value),
         Statement::If(test, yes, other) => {
-            let test = places.expression(alloc, test)?;
+            let test = tested(alloc, places, test)?;
             let yes = resolve_block(alloc, text, places, yes)?;
             let other = otherwise(alloc, text, places, other)?;
             Ok(Statement::If(test, yes, other))

@@ -217,7 +217,7 @@ fn over_statement(
         Statement::Emit(signal, value) => over_emission(walker, text, signal, value),
         Statement::Sustain(signal, value) => over_emission(walker, text, signal, value),
         Statement::If(x, block, other) => {
-            tested(walker, alloc, text, x, block)?;
+            tested(walker, alloc, text, x.get(), block)?;
             otherwise(walker, alloc, text, other)?;
             Ok(())
         }

@@ -156,6 +156,7 @@ fn read_if_else(reader: &mut Reader<'_>, room: u8) -> Result<StatementNode<Name>
 {
     let pos = reader.keyword(Keyword::If)?;
     let test = reader.test(room)?;
+    let test = reader.boxed(test)?;
     let then = read_block(reader, room)?;
     let other = read_behind_else(reader, room)?;
     Ok(statement_at(pos, Statement::If(test, then, other)))

@@ -115,7 +115,7 @@ pub enum Statement<R: Drop> {
     Halt,
     Emit(NameAt<R>, Option<ExprAt<R>>),
     Sustain(NameAt<R>, Option<ExprAt<R>>),
-    If(ExprAt<R>, BlockNode<R>, Option<BlockNode<R>>),
+    If(Boxed<ExprAt<R>>, BlockNode<R>, Option<BlockNode<R>>),
     Loop(BlockNode<R>),
     Fork(Items<BlockNode<R>>),
     Block(BlockNode<R>),

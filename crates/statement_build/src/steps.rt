@@ -24,6 +24,7 @@ use kernel_expand::terms::At;
 use module_tree::source::{
     Binding, BlockNode, Delay, ExprAt, Later, NameAt, SignalNode, Statement,
 };
+use sqlite_items::Boxed;
 
 /// What is left to be written out of a statement.
 #[derive(Drop)]
@@ -272,12 +273,17 @@ impl Builder {
     }
 
     /// A body where the test is true.
-    fn then<'a>(&self, at: At, test: &ExprAt<u32>, around: &Around) -> Result<Inner<'a>, NoMemory>
+    fn then<'a>(
+        &self,
+        at: At,
+        test: &Boxed<ExprAt<u32>>,
+        around: &Around,
+    ) -> Result<Inner<'a>, NoMemory>
         ensures { (f : ℕ → Piece) (p : Piece) → IfOk result (λ w. (numbering f at.pos).choice
             (test_of test.now) p (numbering f at.pos).nothing (around_of around.now)
             (numbered_of self.now) ≡ inside at.pos w p (numbered_of self.now)) }
     {
-        let test = self.test(at.alloc, test)?;
+        let test = self.test(at.alloc, test.get())?;
         Ok(Inner {
             around: around.copy(at.alloc)?,
             shape: Shape::Plain(Plain::Then(test)),
@@ -360,7 +366,7 @@ impl Builder {
             Statement::Sustain(name, value) => Ok(Step::Done(self.sustained(at, name, value)?)),
             Statement::If(test, then, other) => match other {
                 None => Ok(Step::Inside(plain(self.then(at, test, around)?), then)),
-                Some(other) => Ok(Step::Choice(self.test(at.alloc, test)?, then, other)),
+                Some(other) => Ok(Step::Choice(self.test(at.alloc, test.get())?, then, other)),
             },
             Statement::Loop(block) => Ok(Step::Inside(self.looped(at, around)?, block)),
             Statement::Fork(blocks) => Ok(Step::Branches(blocks.as_slice())),

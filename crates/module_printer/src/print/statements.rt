@@ -11,6 +11,7 @@ use module_tree::source::{
     AsyncNode, Binding, BlockNode, Delay, ExprAt, Later, NameAt, SignalNode, Statement,
     StatementNode,
 };
+use sqlite_items::Boxed;
 
 impl Printer {
     /// Writes an expression in parentheses.
@@ -175,12 +176,12 @@ impl Printer {
     }
 
     #[cycle(statement)]
-    fn when(&mut self, test: &ExprAt<Name>, then: &BlockNode<Name>) -> Result<(), NoMemory>
+    fn when(&mut self, test: &Boxed<ExprAt<Name>>, then: &BlockNode<Name>) -> Result<(), NoMemory>
         ensures { Writes result self.old self.new
             (codes "if" ∷ (tokens_of_test test.now ++ tokens_of_block then.now)) }
     {
         self.token("if")?;
-        self.test(test)?;
+        self.test(test.get())?;
         self.block(then)
     }
 

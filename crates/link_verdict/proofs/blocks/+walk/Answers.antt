@@ -1,6 +1,7 @@
 use Rattle.std.proofs.Common.{◌≡◌, ◌+◌, Option, length, refl, sym, ◌∙◌, ap, subst}
 use Rattle.std.specs.Prelude.{OnOk, option_map}
 use Rattle.module_tree.specs.declared.source.BlockNode.{BlockNode}
+use Rattle.module_tree.specs.declared.source.ExprAt.{ExprAt}
 use Rattle.module_tree.specs.Scopes.{with_signals, with_trap}
 use Rattle.module_tree.specs.Parts.{Test, Locals, here, then, if_there, plain_walk, delay_walk, locals_walk, block_walk, Walk}
 use Rattle.link_faults.specs.Named.{Name}
@@ -90,7 +91,9 @@ over_statement-returns-in_ok-otherwise-in-If t c =
     ap statement_walk c.in-If.is ∙ walk_branches x block other in
     subst (λ (w : Walk Name). Follows parts w c.args.walker.now c.otherwise.new.walker) (sym walk)
     (follows_then parts (then (here (Test x)) (block_walk block)) (if_there (option_map block_walk other))
-    c.args.walker.now c.tested.new.walker c.otherwise.new.walker c.in_ok-tested-in-If.ensures
+    c.args.walker.now c.tested.new.walker c.otherwise.new.walker
+    (subst (λ (y : ExprAt Name). Follows parts (then (here (Test y)) (block_walk block)) c.args.walker.now
+    c.tested.new.walker) c.get.ensures c.in_ok-tested-in-If.ensures)
     c.in_ok-otherwise-in-If.ensures)
 
 pub over_statement-returns-in-Signal : goal.over_statement-returns-in-Signal
