@@ -15,3 +15,6 @@ pub mod CountedRepeating
 pub mod CountedMarks
 pub mod Unmentioned
 pub mod Unemitted
+pub mod ReplacedExpressions
+pub mod ReplacedBags
+pub mod Running

@@ -9,3 +9,5 @@ pub mod Counts
 pub mod CountedAborts
 pub mod CountedRepeats
 pub mod Mentions
+pub mod Replacements
+pub mod Runs

@@ -8,6 +8,7 @@ ghost use Rattle.derived_laws.specs.Suspends.{SuspendImmediateObeys};
 ghost use Rattle.derived_laws.specs.Counts.{AwaitCountObeys, WeakAbortCountObeys};
 ghost use Rattle.derived_laws.specs.CountedAborts.{AbortCountObeys};
 ghost use Rattle.derived_laws.specs.CountedRepeats.{DoEveryCountObeys, EveryCountObeys};
+ghost use Rattle.derived_laws.specs.Runs.{RunObeys};
 
 /// `halt` rests, when it is started and in each later reaction.
 pub fn halt_rule()
@@ -102,4 +103,9 @@ pub fn do_every_count_rule()
 /// then on it is `do p every count (n, d)`.
 pub fn every_count_rule()
     ensures { EveryCountObeys }
+{}
+
+/// `run m(..)` is the body of m in which each signal of m's interface is the caller's signal that is bound to it.
+pub fn run_rule()
+    ensures { RunObeys }
 {}
