@@ -18,3 +18,4 @@ pub mod Unemitted
 pub mod ReplacedExpressions
 pub mod ReplacedBags
 pub mod Running
+pub mod ReplacedSteps

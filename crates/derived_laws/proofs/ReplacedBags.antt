@@ -80,7 +80,7 @@ module _ (f : ℕ → ℕ) where
       ap (λ x. cond (truth v) x (M (p i))) (gives_with [] 1 i) ∙ if_with (truth v) (gives [] 1 i) (p i)
   held_with (cell.Faulted o k) i p = refl
 
-  answer_with : (s : Option ℕ) (v : Value) → answer_bag (option_map f s) v ≡ B (answer_bag s v)
+  pub answer_with : (s : Option ℕ) (v : Value) → answer_bag (option_map f s) v ≡ B (answer_bag s v)
   answer_with None v = refl
   answer_with (Some s) v = refl
 

@@ -11,3 +11,5 @@ pub record RunObeys : Type 0 where
   pub must_can : (f g : ℕ → ℕ) (T T' : Table) (p : Statement) (t : Task) (i : Index) (E : Env)
       → Declares T T' f g p
       → must_can T' (statement_with f g p) t i E ≡ must_can_with f (must_can T p t i (seen_by f E))
+  pub step : (f g : ℕ → ℕ) (T T' : Table) (p : Statement) (t : Task) (E : Env) → Declares T T' f g p
+      → step T' (statement_with f g p) t E ≡ option_map (stepped_with f g) (step T p t (seen_by f E))
