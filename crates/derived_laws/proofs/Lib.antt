@@ -19,3 +19,6 @@ pub mod ReplacedExpressions
 pub mod ReplacedBags
 pub mod Running
 pub mod ReplacedSteps
+pub mod ReplacedMarks
+pub mod RunPieces
+pub mod RenamedTrees

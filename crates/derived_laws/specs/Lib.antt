@@ -10,4 +10,5 @@ pub mod CountedAborts
 pub mod CountedRepeats
 pub mod Mentions
 pub mod Replacements
+pub mod Naming
 pub mod Runs
