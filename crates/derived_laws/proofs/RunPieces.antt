@@ -15,10 +15,14 @@ use Rattle.host_expr.specs.declared.expr.ExprNode.TheVariants as node
 use Rattle.host_expr.specs.Expression.{Expression, Int, Flag, Text, Now, Pre, NowVal, PreVal, Arg, Not, Neg, Arith}
 use Rattle.host_expr.specs.Expression.{Compare, And, Or, Choose, expression_of, optional_expression}
 use Rattle.host_expr.specs.Measures.{signals_read}
+use Rattle.host_expr.proofs.Trees.{expr-Now}
 use Rattle.module_tree.specs.declared.source.NameAt.{NameAt}
 use Rattle.module_tree.specs.declared.source.ExprAt.{ExprAt}
 use Rattle.module_tree.specs.declared.source.Binding.{Binding}
 use Rattle.module_tree.specs.declared.source.AsyncNode.{AsyncNode}
+use Rattle.module_tree.specs.declared.source.SignalNode.{SignalNode}
+use Rattle.module_tree.specs.Parts.{block_walk}
+use Rattle.module_tree.specs.Scopes.{InScope, Declared}
 use Rattle.module_tree.specs.declared.source.ModuleNode.{ModuleNode}
 use Rattle.hh_term.specs.declared.program.SignalDecl.{SignalDecl}
 use Rattle.hh_term.specs.Kernel.{Kernel, AsyncSite, body_params}
@@ -27,18 +31,19 @@ use Rattle.hh_term.specs.Statement as statement
 use Rattle.hh_term.specs.Statement.{Statement}
 use Rattle.hh_term.specs.Placed.{Placed, unplaced}
 use Rattle.hh_term.specs.Placed as placed
+use Rattle.kernel_expand.specs.Operations.{Operations}
 use Rattle.kernel_expand.specs.Modules.{of_module, body_means}
 use Rattle.kernel_expand.specs.Numbering.{Piece, Around, Numbered, numbering, number_of, in_numbers, value_in_numbers}
 use Rattle.kernel_expand.specs.Numbering.{local_signal, counter_signal, with_signal, with_place, with_site, with_trap}
 use Rattle.kernel_expand.specs.Numbering.{in_trap, traps_between, result_in_numbers, site_in_numbers, inside_run}
-use Rattle.kernel_expand.specs.Numbering.{behind_run, no_traps}
+use Rattle.kernel_expand.specs.Numbering.{behind_run, no_traps, of_two}
 use Rattle.kernel_expand.specs.Expansion.{no_module}
 use Rattle.kernel_expand.proofs.Alike.{Alike}
 use Rattle.kernel_expand.proofs.AlikeTrees.{blocks_alike, callees}
 use Rattle.kernel_expand.proofs.Good.{there, still}
 use Rattle.kernel_expand.proofs.Replaced.{both_all}
 use Rattle.derived_laws.specs.Naming.{Naming, naming, nothing_named, expression_names, value_names, result_names}
-use Rattle.derived_laws.specs.Naming.{async_names, bindings_name}
+use Rattle.derived_laws.specs.Naming.{async_names, bindings_name, naming_two}
 use Rattle.derived_laws.specs.Replacements.{expression_with, statement_with, IsAlone, SameSignal, SameSite, Declares}
 use Rattle.derived_laws.specs.Runs.{Begins}
 use Rattle.derived_laws.proofs.RenamedTrees.{is_replaced}
@@ -225,3 +230,342 @@ module _ (k L S : ℕ) (f : ℕ → ℕ) (high : (s : ℕ) → k ≤ s → f s +
           word = ap (λ (o : Option SignalDecl). (elim o [ Some d ↦ d.combine | None ↦ None ])) same;
           position = ap (λ (o : Option SignalDecl). (elim o [ Some d ↦ d.pos | None ↦ record { 0 = 0 } ])) same;
         }
+
+    site_same : (x y : AsyncSite) (K K' : Kernel) → y.signal ≡ option_map f x.signal
+        → y.args ≡ map (expression_with f) x.args → y.body ≡ x.body
+        → slice_get K.sites (length n.sites) ≡ Some x → slice_get K'.sites (length m.sites) ≡ Some y
+        → K'.bodies ≡ K.bodies → SameSite (table_of K) (table_of K') f g (length n.sites)
+    site_same x y K K' signal args body here there bodies =
+        let to : slice_get K'.sites (g (length n.sites)) ≡ Some y =
+        ap (slice_get K'.sites) (sym st.sites) ∙ there in
+        let target : Option AsyncSite → Option ℕ = λ o. (elim o [ Some a ↦ a.signal | None ↦ None ]) in
+        let arguments : Option AsyncSite → List Expression = λ o. (elim o [ Some a ↦ a.args | None ↦ [] ]) in
+        let params : Kernel → Option AsyncSite → List Kind =
+        λ K o. (elim o [ Some a ↦ body_params (slice_get K.bodies a.body) | None ↦ [] ]) in
+        record {
+          target = ap target to ∙ signal ∙ ap (option_map f) (sym (ap target here));
+          args = ap arguments to ∙ args ∙ ap (map (expression_with f)) (sym (ap arguments here));
+          params = ap (params K') to ∙ (λ i. body_params (slice_get (bodies i) (body i))) ∙ sym (ap (params K) here);
+        }
+
+  -- ---- the operations
+
+  same : (n : Numbered) (K : Kernel) → Begins K n → Begins K n
+  same n K h = h
+
+  -- a statement that declares nothing
+  leaf : (c : ℕ) (n m : Numbered) (x y : Placed) → Stands c n m → unplaced y ≡ R (unplaced x)
+      → ((T T' : Table) → Declares T T' f g (unplaced x)) → Matches c n m (x, n) (y, m)
+  leaf c n m x y st e d =
+      record {
+        statement = e;
+        after = st;
+        earlier = same n;
+        earlier_too = same m;
+        declares = λ K K' h h' b. d (table_of K) (table_of K');
+      }
+
+  -- round one part
+  round : (c : ℕ) (n m : Numbered) (x y : Placed × Numbered) (u v : Placed) → Matches c n m x y
+      → unplaced v ≡ R (unplaced u)
+      → ((T T' : Table) → Declares T T' f g (unplaced x.0) → Declares T T' f g (unplaced u))
+      → Matches c n m (u, x.1) (v, y.1)
+  round c n m x y u v w e d =
+      record {
+        statement = e;
+        after = w.after;
+        earlier = w.earlier;
+        earlier_too = w.earlier_too;
+        declares = λ K K' h h' b. d (table_of K) (table_of K') (w.declares K K' h h' b);
+      }
+
+  -- of two parts
+  pair : (c c' : ℕ) (n m : Numbered) (x y x' y' : Placed × Numbered) (u v : Placed) → Matches c n m x y
+      → Matches c' x.1 y.1 x' y' → unplaced v ≡ R (unplaced u)
+      → ((T T' : Table) → Declares T T' f g (unplaced x.0) → Declares T T' f g (unplaced x'.0)
+      → Declares T T' f g (unplaced u)) → Matches c' n m (u, x'.1) (v, y'.1)
+  pair c c' n m x y x' y' u v w z e d =
+      record {
+        statement = e;
+        after = z.after;
+        earlier = λ K h. w.earlier K (z.earlier K h);
+        earlier_too = λ K h. w.earlier_too K (z.earlier_too K h);
+        declares = λ K K' h h' b. d (table_of K) (table_of K')
+            (w.declares K K' (z.earlier K h) (z.earlier_too K' h') b) (z.declares K K' h h' b);
+      }
+
+  before_signal : (d : SignalDecl) (n : Numbered) (K : Kernel) → Begins K (with_signal d n) → Begins K n
+  before_signal d n K h =
+      record { signals = λ s x e. h.signals s x (still n.signals (d ∷ []) s x e); sites = h.sites }
+
+  before_place : (d : SignalDecl) (n : Numbered) (K : Kernel) → Begins K (with_place d n) → Begins K n
+  before_place d n K h =
+      record { signals = λ s x e. h.signals s x (still n.signals (d ∷ []) s x e); sites = h.sites }
+
+  before_site : (x : AsyncSite) (n : Numbered) (K : Kernel) → Begins K (with_site x n) → Begins K n
+  before_site x n K h =
+      record { signals = h.signals; sites = λ s y e. h.sites s y (still n.sites (x ∷ []) s y e) }
+
+  bound_in : (c : ℕ) (n m : Numbered) (st : Stands c n m) (bs : List (Binding ℕ)) → bindings_name c bs ≡ true
+      → (p : ℕ) → p < length bs →
+      slice_index_or (map (λ (b : Binding ℕ). number_of m b.right.name) bs) p 0
+      ≡ f (slice_index_or (map (λ (b : Binding ℕ). number_of n b.right.name) bs) p 0)
+  bound_in c n m st [] h p lt = absurd (let no : ⊥ = omega (arith, lt) in no)
+  bound_in c n m st (b ∷ bs) h zero lt =
+      names c n m st b.right.name (and_both (nat_lt b.right.name c) (bindings_name c bs) h).0
+  bound_in c n m st (b ∷ bs) h (suc p) lt =
+      bound_in c n m st bs (and_both (nat_lt b.right.name c) (bindings_name c bs) h).1 p (omega (arith, lt))
+
+  stands_inside : (c : ℕ) (n m : Numbered) (st : Stands c n m) (bs : List (Binding ℕ)) → bindings_name c bs ≡ true
+      → Stands (length bs) (inside_run bs n) (inside_run bs m)
+  stands_inside c n m st bs h =
+      record {
+        count = length-map bs (λ (b : Binding ℕ). number_of n b.right.name);
+        same_count = length-map bs (λ (b : Binding ℕ). number_of m b.right.name);
+        places = bound_in c n m st bs h;
+        floor = st.floor;
+        signals = st.signals;
+        sites = st.sites;
+        traps = refl;
+      }
+
+  stands_behind : (c c' : ℕ) (n m n' m' : Numbered) → Stands c n m → Stands c' n' m'
+      → Stands c (behind_run n n') (behind_run m m')
+  stands_behind c c' n m n' m' st ts =
+      record {
+        count = st.count;
+        same_count = st.same_count;
+        places = st.places;
+        floor = ts.floor;
+        signals = ts.signals;
+        sites = ts.sites;
+        traps = st.traps;
+      }
+
+  module _ (names_of : ℕ → Naming) (pieces : ℕ → Piece) (pos : Pos) where
+    abbrev N : Operations Naming
+    N = naming names_of pos
+
+    abbrev P : Operations Piece
+    P = numbering pieces pos
+
+    two_alike : (here : ℕ → Bool) (node : Numbered → Placed → Placed → Placed)
+        → ((c : ℕ) (n m : Numbered) (x y x' y' : Placed) → Stands c n m → here c ≡ true
+        → unplaced y ≡ R (unplaced x) → unplaced y' ≡ R (unplaced x')
+        → unplaced (node m y y') ≡ R (unplaced (node n x x')))
+        → ((n : Numbered) (x x' : Placed) (T T' : Table) → Declares T T' f g (unplaced x)
+        → Declares T T' f g (unplaced x') → Declares T T' f g (unplaced (node n x x')))
+        → (r : Naming) (p : Piece) (r' : Naming) (p' : Piece) → Replaces r p → Replaces r' p'
+        → Replaces (naming_two here r r') (of_two node p p')
+    two_alike here node e d r p r' p' h k b c a a' n m be st t =
+        let x = r b c in
+        let y = r' b x.1 in
+        let q = and_both (here c && x.0) y.0 t in
+        let s = and_both (here c) x.0 q.0 in
+        let w = h b c a a' n m be st s.1 in
+        let z = k b x.1 a a' (p a n).1 (p a' m).1 be w.after q.1 in
+        pair x.1 y.1 n m (p a n) (p a' m) (p' a (p a n).1) (p' a' (p a' m).1)
+        (node n (p a n).0 (p' a (p a n).1).0) (node m (p a' m).0 (p' a' (p a' m).1).0) w z
+        (e c n m (p a n).0 (p a' m).0 (p' a (p a n).1).0 (p' a' (p a' m).1).0 st s.0 w.statement z.statement)
+        (d n (p a n).0 (p' a (p a n).1).0)
+
+    choice_alike : (d : Expr ℕ) (r : Naming) (p : Piece) (r' : Naming) (p' : Piece) → Replaces r p → Replaces r' p'
+        → Replaces (N.choice d r r') (P.choice d p p')
+    choice_alike d = two_alike (λ c. expression_names c d) (λ n x y. placed.If pos (in_numbers n d) x y)
+        (λ c n m x y x' y' st h e e' i. statement.If (test_in c n m st d h i) (e i) (e' i))
+        (λ n x x' T T' h k. (h, k))
+
+    seq_alike : (r : Naming) (p : Piece) (r' : Naming) (p' : Piece) → Replaces r p → Replaces r' p'
+        → Replaces (N.seq r r') (P.seq p p')
+    seq_alike = two_alike (λ c. true) (λ n x y. placed.Seq pos x y)
+        (λ c n m x y x' y' st h e e' i. statement.Seq (e i) (e' i)) (λ n x x' T T' h k. (h, k))
+
+    par_alike : (r : Naming) (p : Piece) (r' : Naming) (p' : Piece) → Replaces r p → Replaces r' p'
+        → Replaces (N.par r r') (P.par p p')
+    par_alike = two_alike (λ c. true) (λ n x y. placed.Par pos x y)
+        (λ c n m x y x' y' st h e e' i. statement.Par (e i) (e' i)) (λ n x x' T T' h k. (h, k))
+
+    suspend_alike : (d : Expr ℕ) (r : Naming) (p : Piece) → Replaces r p → Replaces (N.suspend d r) (P.suspend d p)
+    suspend_alike d r p h b c a a' n m be st t =
+        let q = and_both (expression_names c d) (r b c).0 t in
+        let w = h b c a a' n m be st q.1 in
+        round (r b c).1 n m (p a n) (p a' m) (placed.Suspend pos (in_numbers n d) (p a n).0)
+        (placed.Suspend pos (in_numbers m d) (p a' m).0) w
+        (λ i. statement.Suspend (test_in c n m st d q.0 i) (w.statement i)) (λ T T' k. k)
+
+    emit_alike : (s : ℕ) (e : Option (Expr ℕ)) → Replaces (N.emit s e) (P.emit s e)
+    emit_alike s e b c a a' n m be st t =
+        let q = and_both (nat_lt s c) (value_names c e) t in
+        leaf c n m (placed.Emit pos (number_of n s) (value_in_numbers n e))
+        (placed.Emit pos (number_of m s) (value_in_numbers m e)) st
+        (λ i. statement.Emit (names c n m st s q.0 i) (value_in c n m st e q.1 i)) (λ T T'. tt)
+
+    local_alike : (d : SignalNode) (r : Naming) (p : Piece) → Replaces r p → Replaces (N.local d r) (P.local d p)
+    local_alike d r p h b c a a' n m be st t =
+        let D = local_signal d in
+        let w = h b (c + 1) a a' (with_place D n) (with_place D m) be (with_places c n m st D) t in
+        record {
+          statement = λ i. statement.Local (next_signal c n m st i) (w.statement i);
+          after = w.after;
+          earlier = λ K k. before_place D n K (w.earlier K k);
+          earlier_too = λ K k. before_place D m K (w.earlier_too K k);
+          declares = λ K K' k k' bs. (
+            signal_same c n m st D K K' ((w.earlier K k).signals (length n.signals) D (there n.signals D))
+                ((w.earlier_too K' k').signals (length m.signals) D (there m.signals D)),
+            w.declares K K' k k' bs,
+          );
+        }
+
+    counter_alike : (r : Naming) (p : Piece) → Replaces r p → Replaces (N.counter r) (P.counter p)
+    counter_alike r p h b c a a' n m be st t =
+        let D = counter_signal pos in
+        let beside : Beside true (record { traps = a.traps; counter = length n.signals })
+        (record { traps = a'.traps; counter = length m.signals }) =
+        record { traps = be.traps; counter = λ k. next_signal c n m st } in
+        let w = h true c (record { traps = a.traps; counter = length n.signals })
+        (record { traps = a'.traps; counter = length m.signals }) (with_signal D n) (with_signal D m) beside
+        (with_signals c n m st D) t in
+        record {
+          statement = λ i. statement.Local (next_signal c n m st i) (w.statement i);
+          after = w.after;
+          earlier = λ K k. before_signal D n K (w.earlier K k);
+          earlier_too = λ K k. before_signal D m K (w.earlier_too K k);
+          declares = λ K K' k k' bs. (
+            signal_same c n m st D K K' ((w.earlier K k).signals (length n.signals) D (there n.signals D))
+                ((w.earlier_too K' k').signals (length m.signals) D (there m.signals D)),
+            w.declares K K' k k' bs,
+          );
+        }
+
+    async_alike : (d : AsyncNode ℕ) → Replaces (N.async d) (P.async d)
+    async_alike d b c a a' n m be st t =
+        let q = and_both (result_names c d.signal)
+        (list_all (λ (x : ExprAt ℕ). expression_names c x.expr) d.args) t in
+        let x = site_in_numbers n d in
+        let y = site_in_numbers m d in
+        record {
+          statement = λ i. statement.Async (st.sites i);
+          after = with_sites c n m st x y;
+          earlier = before_site x n;
+          earlier_too = before_site y m;
+          declares = λ K K' k k' bs. site_same c n m st x y K K' (result_in c n m st d.signal q.0)
+              (arguments_in c n m st d.args q.1) refl (k.sites (length n.sites) x (there n.sites x))
+              (k'.sites (length m.sites) y (there m.sites y)) bs;
+        }
+
+    trapped_alike : (o : Numbered → Option ℕ) → ((n m : Numbered) → m.traps ≡ n.traps → o m ≡ o n)
+        → (after : Numbered → Numbered)
+        → ((c : ℕ) (n m : Numbered) → Stands c n m → Stands c (after n) (after m))
+        → ((n : Numbered) (K : Kernel) → Begins K (after n) → Begins K n)
+        → (r : Naming) (p : Piece) → Replaces r p
+        → Replaces r (λ a n. let x = p (in_trap (o n) a) (after n) in (placed.Trap pos x.0, x.1))
+    trapped_alike o e after stands begins r p h b c a a' n m be st t =
+        let beside : Beside b (in_trap (o n) a) (in_trap (o m) a') =
+        record { traps = λ i. e n m st.traps i ∷ be.traps i; counter = be.counter } in
+        let w = h b c (in_trap (o n) a) (in_trap (o m) a') (after n) (after m) beside (stands c n m st) t in
+        record {
+          statement = ap (λ x. statement.Trap x) w.statement;
+          after = w.after;
+          earlier = λ K k. begins n K (w.earlier K k);
+          earlier_too = λ K k. begins m K (w.earlier_too K k);
+          declares = w.declares;
+        }
+
+    stands_in_trap : (c : ℕ) (n m : Numbered) → Stands c n m → Stands c (with_trap n) (with_trap m)
+    stands_in_trap c n m st =
+        record {
+          count = st.count;
+          same_count = st.same_count;
+          places = st.places;
+          floor = st.floor;
+          signals = st.signals;
+          sites = st.sites;
+          traps = ap (λ t. t + 1) st.traps;
+        }
+
+    suspend_counted_alike : (r : Naming) (p : Piece) → Replaces r p
+        → Replaces (N.suspend_counted r) (P.suspend_counted p)
+    suspend_counted_alike r p h b c a a' n m be st t =
+        let q = and_both b (r b c).0 t in
+        let w = h b c a a' n m be st q.1 in
+        round (r b c).1 n m (p a n) (p a' m)
+        (placed.Suspend pos (roll-Expr ℕ (record { pos = pos; node = node.Now a.counter })) (p a n).0)
+        (placed.Suspend pos (roll-Expr ℕ (record { pos = pos; node = node.Now a'.counter })) (p a' m).0) w
+        (λ i. statement.Suspend ((expr-Now pos a'.counter ∙ ap (λ s. Now s) (be.counter q.0)
+        ∙ ap (expression_with f) (sym (expr-Now pos a.counter))) i) (w.statement i)) (λ T T' k. k)
+
+    run_alike : (i : ℕ) (bs : List (Binding ℕ)) → Replaces (names_of i) (pieces i)
+        → Replaces (N.run i bs) (P.run i bs)
+    run_alike i bs h b c a a' n m be st t =
+        let q = and_both (bindings_name c bs) (names_of i false (length bs)).0 t in
+        let beside : Beside false no_traps no_traps = record { traps = refl; counter = λ e. absurd (let no : ⊥ = cc in no) } in
+        let w = h false (length bs) no_traps no_traps (inside_run bs n) (inside_run bs m) beside
+        (stands_inside c n m st bs q.0) q.1 in
+        record {
+          statement = w.statement;
+          after = stands_behind c (names_of i false (length bs)).1 n m (pieces i no_traps (inside_run bs n)).1
+              (pieces i no_traps (inside_run bs m)).1 st w.after;
+          earlier = λ K k. let j = w.earlier K (record { signals = k.signals; sites = k.sites }) in
+              record { signals = j.signals; sites = j.sites };
+          earlier_too = λ K k. let j = w.earlier_too K (record { signals = k.signals; sites = k.sites }) in
+              record { signals = j.signals; sites = j.sites };
+          declares = λ K K' k k' bodies. w.declares K K' (record { signals = k.signals; sites = k.sites })
+              (record { signals = k'.signals; sites = k'.sites }) bodies;
+        }
+
+    operations : Alike Replaces N P
+    operations =
+        record {
+          nothing = λ b c a a' n m be st t. leaf c n m (placed.Nothing pos) (placed.Nothing pos) st refl (λ T T'. tt);
+          pause = λ b c a a' n m be st t. leaf c n m (placed.Pause pos) (placed.Pause pos) st refl (λ T T'. tt);
+          emit = emit_alike;
+          choice = λ d r p r' p' h k. choice_alike d r p r' p' h k;
+          suspend = suspend_alike;
+          seq = seq_alike;
+          par = par_alike;
+          loop = λ r p h b c a a' n m be st t. let w = h b c a a' n m be st t in
+              round (r b c).1 n m (p a n) (p a' m) (placed.Loop pos (p a n).0) (placed.Loop pos (p a' m).0) w
+              (ap (λ x. statement.Loop x) w.statement) (λ T T' k. k);
+          local = local_alike;
+          async = async_alike;
+          trap = trapped_alike (λ n. None) (λ n m e. refl) (λ n. n) (λ c n m st. st) same;
+          exit = λ b c a a' n m be st t. leaf c n m (placed.Exit pos 0) (placed.Exit pos 0) st refl (λ T T'. tt);
+          named_trap = trapped_alike (λ n. Some n.traps) (λ n m e. ap (λ t. Some t) e) with_trap stands_in_trap
+              (λ n K k. record { signals = k.signals; sites = k.sites });
+          leave = λ u b c a a' n m be st t. leaf c n m (placed.Exit pos (traps_between u a.traps))
+              (placed.Exit pos (traps_between u a'.traps)) st
+              (ap (λ x. statement.Exit (traps_between u x)) be.traps) (λ T T'. tt);
+          counter = counter_alike;
+          suspend_counted = suspend_counted_alike;
+          emit_counter = λ b c a a' n m be st t. leaf c n m (placed.Emit pos a.counter None)
+              (placed.Emit pos a'.counter None) st (ap (λ s. statement.Emit s None) (be.counter t)) (λ T T'. tt);
+        }
+
+  -- ---- modules
+
+  no_module_alike : Replaces nothing_named no_module
+  no_module_alike b c a a' n m be st t =
+      leaf c n m (placed.Nothing (record { 0 = 0 })) (placed.Nothing (record { 0 = 0 })) st refl (λ T T'. tt)
+
+  for_all : (Q : ℕ → Type 0) → ((i : ℕ) → Q i) → (xs : List ℕ) → AllByRecursion Q xs
+  for_all Q h [] = tt
+  for_all Q h (x ∷ xs) = (h x, for_all Q h xs)
+
+  module_alike : (names_of : ℕ → Naming) (pieces : ℕ → Piece) → ((i : ℕ) → Replaces (names_of i) (pieces i))
+      → (o : Option (ModuleNode ℕ))
+      → Replaces (body_means (naming names_of) nothing_named o) (body_means (numbering pieces) no_module o)
+  module_alike names_of pieces h None = no_module_alike
+  module_alike names_of pieces h (Some b) =
+      let scope : InScope = record { signals = []; traps = [] } in
+      let start : Declared = record { signals = 0; traps = 0 } in
+      blocks_alike Replaces (naming names_of) (numbering pieces) (λ j. Replaces (names_of j) (pieces j))
+      (λ pos. operations names_of pieces pos) (λ pos j bs k. run_alike names_of pieces pos j bs k) b.block scope start
+      (for_all (λ j. Replaces (names_of j) (pieces j)) h (callees (block_walk b.block scope start).parts))
+
+  pub modules_alike : (modules : List (ModuleNode ℕ)) (deep i : ℕ)
+      → Replaces (of_module naming nothing_named modules deep i) (of_module numbering no_module modules deep i)
+  unfolding of_module
+  modules_alike modules zero i = no_module_alike
+  modules_alike modules (suc deep) i =
+      module_alike (of_module naming nothing_named modules deep) (of_module numbering no_module modules deep)
+      (modules_alike modules deep) (slice_get modules i)

@@ -8,7 +8,7 @@ ghost use Rattle.derived_laws.specs.Suspends.{SuspendImmediateObeys};
 ghost use Rattle.derived_laws.specs.Counts.{AwaitCountObeys, WeakAbortCountObeys};
 ghost use Rattle.derived_laws.specs.CountedAborts.{AbortCountObeys};
 ghost use Rattle.derived_laws.specs.CountedRepeats.{DoEveryCountObeys, EveryCountObeys};
-ghost use Rattle.derived_laws.specs.Runs.{ReplacedObeys};
+ghost use Rattle.derived_laws.specs.Runs.{ReplacedObeys, RunObeys};
 
 /// `halt` rests, when it is started and in each later reaction.
 pub fn halt_rule()
@@ -109,4 +109,9 @@ pub fn every_count_rule()
 /// signal has the status and the value of that in its place.
 pub fn replaced_signals_rule()
     ensures { ReplacedObeys }
+{}
+
+/// `run m(..)` is the body of m in which each signal of m's interface is the caller's signal that is bound to it.
+pub fn run_rule()
+    ensures { RunObeys }
 {}
