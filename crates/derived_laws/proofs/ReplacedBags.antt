@@ -1,6 +1,6 @@
 -- Must and Can with replaced signals.
 use Rattle.std.proofs.Common.{◌≡◌, refl, sym, ap, ◌∙◌, ℕ, ◌+◌, Bool, true, false, cond, Option, Some, None, List}
-use Rattle.std.proofs.Common.{[], ◌∷◌, ◌++◌, map}
+use Rattle.std.proofs.Common.{[], ◌∷◌, ◌++◌}
 use Rattle.std.proofs.lemmas.List.{map-append}
 use Rattle.std.specs.Prelude.{◌==◌, option_map}
 use Rattle.hh_base.specs.declared.item.Item.{Item}
@@ -8,20 +8,19 @@ use Rattle.hh_base.specs.declared.value.Value.{Value}
 use Rattle.host_expr.specs.declared.cell.Cell.{Cell}
 use Rattle.host_expr.specs.declared.cell.Cell.TheVariants as cell
 use Rattle.host_expr.specs.declared.cell.SigCell.{SigCell}
-use Rattle.host_expr.specs.Expression.{Expression}
 use Rattle.host_expr.specs.Environment.{Env, unsolved, put}
 use Rattle.host_expr.specs.Evaluation.{eval_of, truth}
 use Rattle.hh_term.specs.Statement.{Statement, Nothing, Pause, Emit, If, Suspend, Seq, Par, Loop, Trap, Exit, Local}
 use Rattle.hh_term.specs.Statement.{Async}
-use Rattle.hh_term.specs.Selection.{AtPause, AtAsync, First, Second, Both, Inside, Scope, Task, Start, Resume}
+use Rattle.hh_term.specs.Selection.{AtAsync, First, Second, Both, Inside, Scope, Task, Start, Resume}
 use Rattle.hh_term.specs.MustCan.{Table, MustCan, Bag, Index, Executed, Possible, must_can, emitted, gives, is_end}
 use Rattle.hh_term.specs.MustCan.{one_of, go_on, sequence, parallel, trapped, chosen, held, answered, answer_bag}
 use Rattle.hh_term.specs.MustCan.{answer_code, cells_of, without, hide, raised, round, solve, scoped, status_by}
 use Rattle.hh_term.specs.MustCan.{value_by}
-use Rattle.hh_term.specs.Codes.{either, in_turn, greater_of, lowered}
+use Rattle.hh_term.specs.Codes.{either, in_turn, greater_of}
 use Rattle.hh_term.specs.MustCan.{greater}
-use Rattle.derived_laws.specs.Replacements.{expression_with, statement_with, seen_by, bag_with, must_can_with}
-use Rattle.derived_laws.specs.Replacements.{IsAlone, SameSignal, SameSite, Declares}
+use Rattle.derived_laws.specs.Replacements.{statement_with, seen_by, bag_with, must_can_with}
+use Rattle.derived_laws.specs.Replacements.{IsAlone, SameSignal, Declares}
 use Rattle.derived_laws.proofs.ReplacedExpressions.{evaluates, emits}
 
 module _ (f : ℕ → ℕ) where

@@ -1,5 +1,5 @@
 -- An expression with its signals replaced reads what they are replaced by.
-use Rattle.std.proofs.Common.{◌≡◌, refl, ap, ℕ, Bool, cond, ◌&&◌, Option, Some, None, List, [], ◌∷◌, map}
+use Rattle.std.proofs.Common.{◌≡◌, refl, ℕ, cond, ◌&&◌, Option, Some, None, List, [], ◌∷◌, map}
 use Rattle.std.specs.Prelude.{not, false, true, option_map}
 use Rattle.hh_base.specs.declared.value.Value.{Value}
 use Rattle.hh_base.specs.declared.value.Value.TheVariants as value

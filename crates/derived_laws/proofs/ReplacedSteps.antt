@@ -1,12 +1,10 @@
 -- The step with replaced signals.
-use Rattle.std.proofs.Common.{◌≡◌, refl, sym, ap, ◌∙◌, ℕ, ◌+◌, Bool, true, false, cond, max, ◌&&◌, Option, Some, None}
+use Rattle.std.proofs.Common.{◌≡◌, refl, sym, ap, ◌∙◌, ℕ, Bool, true, false, cond, max, ◌&&◌, Option, Some, None}
 use Rattle.std.proofs.Common.{List, [], ◌∷◌, ◌++◌, map}
 use Rattle.std.proofs.lemmas.List.{map-append}
 use Rattle.std.specs.Prelude.{◌==◌, option_map, zip}
 use Rattle.hh_base.specs.declared.item.Item.{Item}
 use Rattle.hh_base.specs.declared.value.Value.{Value}
-use Rattle.hh_base.specs.declared.value.Pos.{Pos}
-use Rattle.hh_base.specs.declared.value.FaultKind.{FaultKind}
 use Rattle.host_expr.specs.declared.cell.Cell.{Cell}
 use Rattle.host_expr.specs.declared.cell.Cell.TheVariants as cell
 use Rattle.host_expr.specs.declared.cell.SigCell.{SigCell}
@@ -15,15 +13,15 @@ use Rattle.host_expr.specs.Combination.{is_several, counts_as}
 use Rattle.host_expr.specs.Evaluation.{eval_of, truth}
 use Rattle.hh_term.specs.Statement.{Statement, Nothing, Pause, Emit, If, Suspend, Seq, Par, Loop, Trap, Exit, Local}
 use Rattle.hh_term.specs.Statement.{Async}
-use Rattle.hh_term.specs.Selection.{Selection, AtPause, AtAsync, First, Second, Both, Inside, Scope, Task, Start}
+use Rattle.hh_term.specs.Selection.{Selection, AtAsync, First, Second, Both, Inside, Scope, Task, Start}
 use Rattle.hh_term.specs.Selection.{Resume}
-use Rattle.hh_term.specs.MustCan.{Table, MustCan, Executed, must_can, solve, emitted, answer_bag, all_known, cells_of}
+use Rattle.hh_term.specs.MustCan.{Table, MustCan, Executed, must_can, solve, emitted, answer_bag, all_known}
 use Rattle.hh_term.specs.Touches.{Touch, stopped, held_mark, held_touches}
-use Rattle.hh_term.specs.Step.{Stepped, ◌>>=◌, completes, rests, closed, mark_map, wrapped, wrap, with_fault, joined}
+use Rattle.hh_term.specs.Step.{Stepped, ◌>>=◌, completes, rests, closed, wrapped, wrap, with_fault, joined}
 use Rattle.hh_term.specs.Step.{both_marks, beside, trap_step, on_test, emit_step, then_start, doubled_by, overflow_by}
 use Rattle.hh_term.specs.Step.{values_of, leave, scope_mark, local_step, add_faults, argument_value, start_async}
 use Rattle.hh_term.specs.Step.{async_step, answer_step, resume_async, step}
-use Rattle.derived_laws.specs.Replacements.{expression_with, statement_with, seen_by, bag_with, must_can_with}
+use Rattle.derived_laws.specs.Replacements.{statement_with, seen_by, must_can_with}
 use Rattle.derived_laws.specs.Replacements.{touch_with, stepped_with, SameSignal, SameSite, Declares}
 use Rattle.derived_laws.proofs.ReplacedExpressions.{evaluates, emits, arguments}
 use Rattle.derived_laws.proofs.ReplacedBags.{joined_bags, answer_with, cells_with, without_with, put_with, solve_with}

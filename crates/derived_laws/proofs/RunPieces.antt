@@ -1,6 +1,6 @@
 -- What a module expands to in the program of a caller is what it expands to in its own, with signals and sites
 -- replaced.
-use Rattle.std.proofs.Common.{◌≡◌, refl, sym, ap, ◌∙◌, subst, ℕ, zero, suc, inl, inr, ◌+◌, ◌-◌, ◌<◌, ◌≤◌, Bool, true, false}
+use Rattle.std.proofs.Common.{◌≡◌, refl, sym, ap, ◌∙◌, ℕ, zero, suc, inl, inr, ◌+◌, ◌<◌, ◌≤◌, Bool, true, false}
 use Rattle.std.proofs.Common.{Option, Some, None, List, [], ◌∷◌, ◌++◌, map, length, arith, length-append}
 use Rattle.std.proofs.lemmas.List.{length-map}
 use Rattle.std.proofs.lemmas.Bool.{ltb-true, cases_lt}
@@ -43,7 +43,7 @@ use Rattle.kernel_expand.proofs.AlikeTrees.{blocks_alike, callees}
 use Rattle.kernel_expand.proofs.Good.{there, still}
 use Rattle.kernel_expand.proofs.Replaced.{both_all}
 use Rattle.derived_laws.specs.Naming.{Naming, naming, nothing_named, expression_names, value_names, result_names}
-use Rattle.derived_laws.specs.Naming.{async_names, bindings_name, naming_two}
+use Rattle.derived_laws.specs.Naming.{bindings_name, naming_two}
 use Rattle.derived_laws.specs.Replacements.{expression_with, statement_with, IsAlone, SameSignal, SameSite, Declares}
 use Rattle.derived_laws.specs.Runs.{Begins}
 use Rattle.derived_laws.proofs.RenamedTrees.{is_replaced}

@@ -1,31 +1,30 @@
 -- The rule of `run`, and that of replaced signals on which it rests.
-use Rattle.std.proofs.Common.{◌≡◌, refl, sym, ap, ◌∙◌, subst, inl, inr, ℕ, zero, suc, ◌+◌, ◌-◌, ◌<◌, ◌≤◌, Bool, true}
-use Rattle.std.proofs.Common.{false, Option, Some, None, List, [], ◌∷◌, map, length, arith}
+use Rattle.std.proofs.Common.{◌≡◌, refl, sym, ap, ◌∙◌, subst, inl, inr, ℕ, zero, suc, ◌+◌, ◌-◌, ◌<◌, ◌≤◌}
+use Rattle.std.proofs.Common.{false, Option, Some, None, List, [], ◌∷◌, length, arith}
 use Rattle.std.proofs.lemmas.List.{length-map}
 use Rattle.std.proofs.lemmas.List.FromFn.{length-range_with_len, get_or-range_with_len}
 use Rattle.std.proofs.lemmas.Bool.{cases_lt, cases_eq, eq-eqb, ne_eqb}
-use Rattle.std.specs.Prelude.{◌==◌, slice_get, slice_index_or, option_map}
-use Rattle.std.specs.List.{AllByRecursion, range_with_len}
+use Rattle.std.specs.Prelude.{slice_get, slice_index_or, option_map}
+use Rattle.std.specs.List.{AllByRecursion}
 use Rattle.host_expr.specs.Environment.{Env}
 use Rattle.module_tree.specs.declared.source.Binding.{Binding}
-use Rattle.hh_term.specs.Statement.{Statement}
 use Rattle.hh_term.specs.Selection.{Selection, Task}
 use Rattle.hh_term.specs.Kernel.{Kernel}
-use Rattle.hh_term.specs.MustCan.{Table, Index, table_of, must_can}
+use Rattle.hh_term.specs.MustCan.{Index, table_of, must_can}
 use Rattle.hh_term.specs.Step.{step}
-use Rattle.hh_term.specs.Placed.{Placed, unplaced}
+use Rattle.hh_term.specs.Placed.{unplaced}
 use Rattle.kernel_expand.specs.Modules.{of_module}
-use Rattle.kernel_expand.specs.Numbering.{Numbered, numbering, number_of, inside_run, no_traps}
+use Rattle.kernel_expand.specs.Numbering.{numbering, number_of, inside_run, no_traps}
 use Rattle.kernel_expand.specs.Expansion.{at_start, interface_signal, no_module}
 use Rattle.derived_laws.specs.Resting.{RestsAt}
 use Rattle.derived_laws.specs.Naming.{naming, nothing_named}
 use Rattle.derived_laws.specs.Replacements.{statement_with, seen_by, must_can_with, stepped_with, IsAlone, Declares}
-use Rattle.derived_laws.specs.Runs.{ReplacedObeys, RunObeys, Call, Binds, Begins, Programs, interface_of, expanded}
+use Rattle.derived_laws.specs.Runs.{ReplacedObeys, RunObeys, Call, Binds, Programs, interface_of, expanded}
 use Rattle.derived_laws.specs.Runs.{as_program, bound, signal_for, site_for}
 use Rattle.derived_laws.proofs.ReplacedBags.{must_can_replaced}
 use Rattle.derived_laws.proofs.ReplacedSteps.{step_replaced}
 use Rattle.derived_laws.proofs.ReplacedMarks.{rests_replaced}
-use Rattle.derived_laws.proofs.RunPieces.{Stands, Beside, Matches, modules_alike}
+use Rattle.derived_laws.proofs.RunPieces.{Stands, Matches, modules_alike}
 
 pub replaced_obeys : ReplacedObeys
 replaced_obeys =
@@ -66,8 +65,12 @@ module _ (c : Call) (b : Binds c) where
   alone : (s : ℕ) → length (bound c) ≤ s → IsAlone (signal_for c) s
   alone s le t = elim (cases_lt t (length (bound c))) [
     | inl lt ↦ ne_eqb (signal_for c t) (signal_for c s)
-        (λ e. let no : ⊥ = omega (arith, e, behind s le,
-        below (length c.before.signals) (bound c) t (length c.before.signals + (t - length (bound c))) b.declared lt) in no)
+        (λ e. let no : ⊥ = omega (
+          arith,
+          e,
+          behind s le,
+          below (length c.before.signals) (bound c) t (length c.before.signals + (t - length (bound c))) b.declared lt,
+        ) in no)
         ∙ sym (ne_eqb t s (λ e. let no : ⊥ = omega (arith, e, lt, le) in no))
     | inr ge ↦ elim (cases_eq t s) [
       | inl e ↦ eq-eqb (signal_for c t) (signal_for c s) (ap (signal_for c) e) ∙ sym (eq-eqb t s e)

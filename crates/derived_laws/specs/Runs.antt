@@ -1,6 +1,6 @@
 -- `run`: the body of another module, in which its interface is what is bound to it. (Berry, The Esterel v5
 -- Language Primer; numbers are this project's own.)
-use Rattle.std.specs.Prelude.{◌≡◌, ℕ, ◌+◌, ◌-◌, ◌<◌, true, Option, Some, None, List, map, length, slice_get, option_map}
+use Rattle.std.specs.Prelude.{◌≡◌, ℕ, ◌+◌, ◌-◌, ◌<◌, true, Some, None, List, map, length, slice_get, option_map}
 use Rattle.std.specs.List.{AllByRecursion}
 use Rattle.hh_base.specs.declared.value.Pos.{Pos}
 use Rattle.host_expr.specs.Environment.{Env}
