@@ -22,3 +22,5 @@ pub mod ReplacedSteps
 pub mod ReplacedMarks
 pub mod RunPieces
 pub mod RenamedTrees
+pub mod NamedRows
+pub mod NamedTrees

@@ -24,6 +24,7 @@ use Rattle.derived_laws.specs.Runs.{as_program, bound, signal_for, site_for}
 use Rattle.derived_laws.proofs.ReplacedBags.{must_can_replaced}
 use Rattle.derived_laws.proofs.ReplacedSteps.{step_replaced}
 use Rattle.derived_laws.proofs.ReplacedMarks.{rests_replaced}
+use Rattle.derived_laws.proofs.NamedTrees.{blocks_met}
 use Rattle.derived_laws.proofs.RunPieces.{Stands, Matches, modules_alike}
 
 pub replaced_obeys : ReplacedObeys
