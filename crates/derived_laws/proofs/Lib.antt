@@ -24,3 +24,4 @@ pub mod RunPieces
 pub mod RenamedTrees
 pub mod NamedRows
 pub mod NamedTrees
+pub mod NamedModules

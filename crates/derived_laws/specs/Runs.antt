@@ -7,6 +7,9 @@ use Rattle.host_expr.specs.Environment.{Env}
 use Rattle.module_tree.specs.declared.source.Binding.{Binding}
 use Rattle.module_tree.specs.declared.source.InterfaceNode.{InterfaceNode}
 use Rattle.module_tree.specs.declared.source.ModuleNode.{ModuleNode}
+use Rattle.module_tree.specs.declared.source.Part.{Part}
+use Rattle.module_tree.specs.Callables.{modules_of}
+use Rattle.module_tree.specs.LinkedFacts.{IsLinked}
 use Rattle.hh_term.specs.declared.program.SignalDecl.{SignalDecl}
 use Rattle.hh_term.specs.Statement.{Statement}
 use Rattle.hh_term.specs.Selection.{Selection, Task}
@@ -86,8 +89,12 @@ pub record Programs (c : Call) (K K' : Kernel) : Type 0 where
   pub caller : Begins K' (expanded c).1
   pub bodies : K'.bodies ≡ K.bodies
 
--- the callee reacts, each signal of its interface being the signal that is bound to it
+-- the callee reacts, each signal of its interface being the signal that is bound to it; each module of a linked text
+-- names its own
 pub record RunObeys : Type 0 where
+  pub own : (parts : List (Part ℕ)) → IsLinked parts → (deep i : ℕ) (m : ModuleNode ℕ)
+      → slice_get (modules_of parts) i ≡ Some m
+      → names_its_own (modules_of parts) deep i (length m.interface) ≡ true
   pub must_can : (c : Call) (K K' : Kernel) → Binds c → Programs c K K' → (t : Task) (i : Index) (E : Env) →
       must_can (table_of K') (unplaced (expanded c).0) t i E
       ≡ must_can_with (signal_for c)
