@@ -25,3 +25,6 @@ pub mod RenamedTrees
 pub mod NamedRows
 pub mod NamedTrees
 pub mod NamedModules
+pub mod KeptNumbers
+pub mod Staying
+pub mod BodyRules

@@ -56,7 +56,7 @@ pub all_of : {A : Type 0} (P : A → Bool) (xs : List A) → list_all P xs ≡ t
 all_of P [] h = tt
 all_of P (x ∷ xs) h = let q = and_both (P x) (list_all P xs) h in (q.0, all_of P xs q.1)
 
-index_before : (xs ys : List ℕ) (p : ℕ) → p < length xs → slice_index_or (xs ++ ys) p 0 ≡ slice_index_or xs p 0
+pub index_before : (xs ys : List ℕ) (p : ℕ) → p < length xs → slice_index_or (xs ++ ys) p 0 ≡ slice_index_or xs p 0
 index_before [] ys p lt = absurd (let no : ⊥ = omega (arith, lt) in no)
 index_before (x ∷ xs) ys zero lt = refl
 index_before (x ∷ xs) ys (suc p) lt = index_before xs ys p (omega (arith, lt))

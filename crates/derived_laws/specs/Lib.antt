@@ -12,3 +12,4 @@ pub mod Mentions
 pub mod Replacements
 pub mod Naming
 pub mod Runs
+pub mod Bodies

@@ -8,6 +8,7 @@ ghost use Rattle.derived_laws.specs.Suspends.{SuspendImmediateObeys};
 ghost use Rattle.derived_laws.specs.Counts.{AwaitCountObeys, WeakAbortCountObeys};
 ghost use Rattle.derived_laws.specs.CountedAborts.{AbortCountObeys};
 ghost use Rattle.derived_laws.specs.CountedRepeats.{DoEveryCountObeys, EveryCountObeys};
+ghost use Rattle.derived_laws.specs.Bodies.{BodiesObey};
 ghost use Rattle.derived_laws.specs.Runs.{ReplacedObeys, RunObeys};
 
 /// `halt` rests, when it is started and in each later reaction.
@@ -114,4 +115,10 @@ pub fn replaced_signals_rule()
 /// `run m(..)` is the body of m in which each signal of m's interface is the caller's signal that is bound to it.
 pub fn run_rule()
     ensures { RunObeys }
+{}
+
+/// A block leaves the numbers of the signals that are declared before it as they are, and a statement without an exit
+/// to the trap round it does not leave that trap: so the bodies that a text has are as the rules ask.
+pub fn bodies_rule()
+    ensures { BodiesObey }
 {}

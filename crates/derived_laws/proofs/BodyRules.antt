@@ -1,0 +1,12 @@
+-- What the rules ask of bodies.
+use Rattle.derived_laws.specs.Bodies.{BodiesObey}
+use Rattle.derived_laws.proofs.KeptNumbers.{block_stands, block_stands_below}
+use Rattle.derived_laws.proofs.Staying.{stays}
+
+pub bodies_obey : BodiesObey
+bodies_obey =
+    record {
+      stands = block_stands;
+      stands_below = block_stands_below;
+      stays = stays;
+    }
