@@ -2,6 +2,7 @@
 use Rattle.derived_laws.specs.Bodies.{BodiesObey}
 use Rattle.derived_laws.proofs.KeptNumbers.{block_stands, block_stands_below}
 use Rattle.derived_laws.proofs.Staying.{stays}
+use Rattle.derived_laws.proofs.OwnCounters.{counter_own}
 
 pub bodies_obey : BodiesObey
 bodies_obey =
@@ -9,4 +10,5 @@ bodies_obey =
       stands = block_stands;
       stands_below = block_stands_below;
       stays = stays;
+      own = counter_own;
     }

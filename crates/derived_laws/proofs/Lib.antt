@@ -27,4 +27,5 @@ pub mod NamedTrees
 pub mod NamedModules
 pub mod KeptNumbers
 pub mod Staying
+pub mod OwnCounters
 pub mod BodyRules

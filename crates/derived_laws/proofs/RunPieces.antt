@@ -48,7 +48,7 @@ use Rattle.derived_laws.specs.Replacements.{expression_with, statement_with, IsA
 use Rattle.derived_laws.specs.Runs.{Begins}
 use Rattle.derived_laws.proofs.RenamedTrees.{is_replaced}
 
-and_both : (a b : Bool) → (a && b) ≡ true → (a ≡ true) × (b ≡ true)
+pub and_both : (a b : Bool) → (a && b) ≡ true → (a ≡ true) × (b ≡ true)
 and_both true b h = (refl, h)
 and_both false b h = absurd (let no : ⊥ = cc in no)
 
@@ -61,11 +61,23 @@ index_before [] ys p lt = absurd (let no : ⊥ = omega (arith, lt) in no)
 index_before (x ∷ xs) ys zero lt = refl
 index_before (x ∷ xs) ys (suc p) lt = index_before xs ys p (omega (arith, lt))
 
-index_at : (xs : List ℕ) (x p : ℕ) → p ≡ length xs → slice_index_or (xs ++ x ∷ []) p 0 ≡ x
+pub index_at : (xs : List ℕ) (x p : ℕ) → p ≡ length xs → slice_index_or (xs ++ x ∷ []) p 0 ≡ x
 index_at [] x zero e = refl
 index_at [] x (suc p) e = absurd (let no : ⊥ = omega (arith, e) in no)
 index_at (y ∷ xs) x zero e = absurd (let no : ⊥ = omega (arith, e) in no)
 index_at (y ∷ xs) x (suc p) e = index_at xs x p (omega (arith, e))
+
+pub before_signal : (d : SignalDecl) (n : Numbered) (K : Kernel) → Begins K (with_signal d n) → Begins K n
+before_signal d n K h =
+    record { signals = λ s x e. h.signals s x (still n.signals (d ∷ []) s x e); sites = h.sites }
+
+pub before_place : (d : SignalDecl) (n : Numbered) (K : Kernel) → Begins K (with_place d n) → Begins K n
+before_place d n K h =
+    record { signals = λ s x e. h.signals s x (still n.signals (d ∷ []) s x e); sites = h.sites }
+
+pub before_site : (x : AsyncSite) (n : Numbered) (K : Kernel) → Begins K (with_site x n) → Begins K n
+before_site x n K h =
+    record { signals = h.signals; sites = λ s y e. h.sites s y (still n.sites (x ∷ []) s y e) }
 
 -- from k on the signals of the callee come behind the L of the caller, and its sites behind S
 module _ (k L S : ℕ) (f : ℕ → ℕ) (high : (s : ℕ) → k ≤ s → f s + k ≡ L + s)
@@ -293,18 +305,6 @@ module _ (k L S : ℕ) (f : ℕ → ℕ) (high : (s : ℕ) → k ≤ s → f s +
         declares = λ K K' h h' b. d (table_of K) (table_of K')
             (w.declares K K' (z.earlier K h) (z.earlier_too K' h') b) (z.declares K K' h h' b);
       }
-
-  before_signal : (d : SignalDecl) (n : Numbered) (K : Kernel) → Begins K (with_signal d n) → Begins K n
-  before_signal d n K h =
-      record { signals = λ s x e. h.signals s x (still n.signals (d ∷ []) s x e); sites = h.sites }
-
-  before_place : (d : SignalDecl) (n : Numbered) (K : Kernel) → Begins K (with_place d n) → Begins K n
-  before_place d n K h =
-      record { signals = λ s x e. h.signals s x (still n.signals (d ∷ []) s x e); sites = h.sites }
-
-  before_site : (x : AsyncSite) (n : Numbered) (K : Kernel) → Begins K (with_site x n) → Begins K n
-  before_site x n K h =
-      record { signals = h.signals; sites = λ s y e. h.sites s y (still n.sites (x ∷ []) s y e) }
 
   bound_in : (c : ℕ) (n m : Numbered) (st : Stands c n m) (bs : List (Binding ℕ)) → bindings_name c bs ≡ true
       → (p : ℕ) → p < length bs →

@@ -1,5 +1,5 @@
 -- What the rules ask of a body, of the bodies that a text has: its numbers, its exits. (This project's own.)
-use Rattle.std.specs.Prelude.{◌≡◌, ℕ, suc, ◌==◌, true, false, List, length}
+use Rattle.std.specs.Prelude.{◌≡◌, ℕ, suc, ◌==◌, ◌<◌, true, false, List, length}
 use Rattle.hh_base.specs.declared.value.Pos.{Pos}
 use Rattle.host_expr.specs.declared.expr.Expr.{Expr}
 use Rattle.host_expr.specs.Environment.{Env}
@@ -7,15 +7,18 @@ use Rattle.module_tree.specs.declared.source.BlockNode.{BlockNode}
 use Rattle.module_tree.specs.declared.source.ModuleNode.{ModuleNode}
 use Rattle.hh_term.specs.Statement.{Statement, If, Suspend, Seq, Par, Loop, Trap, Exit, Local}
 use Rattle.hh_term.specs.Selection.{Task}
-use Rattle.hh_term.specs.MustCan.{Table}
+use Rattle.hh_term.specs.Kernel.{Kernel}
+use Rattle.hh_term.specs.MustCan.{Table, table_of}
 use Rattle.hh_term.specs.Step.{step}
 use Rattle.kernel_expand.specs.Interpretation.{of_block}
 use Rattle.kernel_expand.specs.Modules.{of_module}
-use Rattle.kernel_expand.specs.Numbering.{Piece, Around, Numbered, numbering}
+use Rattle.kernel_expand.specs.Numbering.{Piece, Around, Numbered, numbering, number_of, in_numbers, with_signal}
+use Rattle.kernel_expand.specs.Numbering.{counter_signal}
 use Rattle.kernel_expand.specs.Expansion.{no_module}
-use Rattle.derived_laws.specs.Naming.{expression_names}
+use Rattle.derived_laws.specs.Naming.{Naming, naming, nothing_named, expression_names}
+use Rattle.derived_laws.specs.Runs.{Begins}
 use Rattle.derived_laws.specs.Aborts.{StandsIn}
-use Rattle.derived_laws.specs.CountedAborts.{StandsBelow}
+use Rattle.derived_laws.specs.CountedAborts.{IsOwn, StandsBelow, in_counter, counted_body}
 use Rattle.derived_laws.specs.Repeats.{StaysIn}
 
 -- no exit of the statement leaves the trap that is j traps outward
@@ -34,8 +37,12 @@ NeverExits j _ = Unit {0}
 abbrev pub block_piece : List (ModuleNode ℕ) → ℕ → BlockNode ℕ → Piece
 block_piece modules deep = of_block (numbering (of_module numbering no_module modules deep))
 
+abbrev pub block_naming : List (ModuleNode ℕ) → ℕ → BlockNode ℕ → Naming
+block_naming modules deep = of_block (naming (of_module naming nothing_named modules deep))
+
 -- Where a test names only signals that are declared before it, a block leaves their numbers as they are. And a
--- statement without an exit to the trap round it does not leave that trap.
+-- statement without an exit to the trap round it does not leave that trap. And the counter of a row is its own, where
+-- test and body name only what is there.
 pub record BodiesObey : Type 0 where
   pub stands : (modules : List (ModuleNode ℕ)) (deep : ℕ) (b : BlockNode ℕ) (d : Expr ℕ) (a : Around)
       (n : Numbered) → expression_names (length n.places) d ≡ true → StandsIn (block_piece modules deep b) d a n
@@ -43,3 +50,9 @@ pub record BodiesObey : Type 0 where
       (a : Around) (n : Numbered) → expression_names (length n.places) d ≡ true
       → StandsBelow pos (block_piece modules deep b) d a n
   pub stays : (T : Table) (p : Statement) (t : Task) (E : Env) → NeverExits 0 p → StaysIn (step T p t E)
+  pub own : (modules : List (ModuleNode ℕ)) (deep : ℕ) (b : BlockNode ℕ) (pos : Pos) (d : Expr ℕ) (a : Around)
+      (n : Numbered) (K : Kernel) → ((p : ℕ) → p < length n.places → number_of n p < length n.signals)
+      → expression_names (length n.places) d ≡ true
+      → (block_naming modules deep b false (length n.places)).0 ≡ true
+      → Begins K (block_piece modules deep b (in_counter a n) (with_signal (counter_signal pos) n)).1 →
+      IsOwn (table_of K) (length n.signals) (in_numbers n d) (counted_body pos (block_piece modules deep b) a n)
