@@ -1,6 +1,6 @@
 -- Each module of a linked text names only what it declares.
-use Rattle.std.proofs.Common.{◌≡◌, ℕ, zero, suc, ◌+◌, ◌<◌, ◌≤◌, Bool, true, false, List, [], ◌∷◌, length, map, Some, None}
-use Rattle.std.proofs.Common.{Option, refl, sym, ap, subst, ◌∙◌, arith}
+use Rattle.std.proofs.Common.{◌≡◌, ℕ, zero, suc, ◌+◌, ◌<◌, ◌≤◌, Bool, true, false, List, [], ◌∷◌, length, map, Some}
+use Rattle.std.proofs.Common.{refl, ap, subst, ◌∙◌, arith}
 use Rattle.std.specs.Prelude.{◌&&◌, slice_get, is_some}
 use Rattle.std.specs.List.{AllByRecursion, list_all}
 use Rattle.module_tree.specs.declared.source.NameAt.{NameAt}
@@ -9,15 +9,18 @@ use Rattle.module_tree.specs.declared.source.ModuleNode.{ModuleNode}
 use Rattle.module_tree.specs.declared.source.Part.{Part}
 use Rattle.module_tree.specs.Callables.{modules_of}
 use Rattle.module_tree.specs.Scopes.{InScope, Declared, Signal, signal_at, interface_signals, interface_from}
-use Rattle.module_tree.specs.Parts.{Placed, parts_of, signals_named, parameters_named}
+use Rattle.module_tree.specs.Parts.{Placed, Test, parts_of, block_walk, signals_named, parameters_named}
+use Rattle.module_tree.specs.declared.source.BlockNode.{BlockNode}
+use Rattle.module_tree.specs.declared.source.ExprAt.{ExprAt}
 use Rattle.module_tree.specs.LinkedFacts.{IsLinked, Known, known_in, in_each_part, is_in_scope, binds_interface, no_more}
 use Rattle.module_tree.specs.LinkedFacts.{refers}
 use Rattle.kernel_expand.specs.Modules.{of_module, body_means}
 use Rattle.kernel_expand.proofs.GoodModules.{all_at}
 use Rattle.kernel_expand.proofs.GoodParts.{all_of_test}
 use Rattle.kernel_expand.proofs.Progress.{both_true}
-use Rattle.derived_laws.specs.Naming.{Naming, naming, nothing_named, names_its_own}
-use Rattle.derived_laws.proofs.NamedTrees.{Tested, IsSeen, blocks_met}
+use Rattle.derived_laws.specs.Naming.{Naming, naming, nothing_named, names_its_own, expression_names}
+use Rattle.derived_laws.specs.Bodies.{ScopeBelow, block_naming}
+use Rattle.derived_laws.proofs.NamedTrees.{Tested, IsSeen, blocks_met, test_passes}
 
 from_map : {A B : Type 0} (g : A → B) (xs : List A) (i : ℕ) (y : B) → slice_get (map g xs) i ≡ Some y
     → (x : A) × (slice_get xs i ≡ Some x) × (g x ≡ y)
@@ -87,3 +90,23 @@ module _ (parts : List (Part ℕ)) (linked : IsLinked parts) where
       ap (λ o. (body_means (naming (of_module naming nothing_named (modules_of parts) deep)) nothing_named o false
       (length m.interface)).0) at
       ∙ body_named (of_module naming nothing_named (modules_of parts) deep) (modules_named deep) i m at
+
+  pub block_named : (deep : ℕ) (m : ModuleNode ℕ) (b : BlockNode ℕ) (scope : InScope) (before : Declared)
+      → ScopeBelow before.signals scope
+      → AllByRecursion (λ p. is_in_scope (known_in parts m) p ≡ true) (block_walk b scope before).parts
+      → AllByRecursion (λ (p : Placed ℕ). binds_interface (known_in parts m) p.part ≡ true)
+      (block_walk b scope before).parts →
+      block_naming (modules_of parts) deep b false before.signals
+      ≡ (true, (block_walk b scope before).after.signals)
+  block_named deep m b scope before low seen bound =
+      let modules = of_module naming nothing_named (modules_of parts) deep in
+      (blocks_met (known_in parts m) modules (callees modules (modules_named deep)) b scope before low
+      (each_tested (known_in parts m) (block_walk b scope before).parts seen bound) false).is
+
+pub test_named : (parts : List (Part ℕ)) (m : ModuleNode ℕ) (scope : InScope) (a : ℕ) (x : ExprAt ℕ)
+    → ScopeBelow a scope → is_in_scope (known_in parts m) (record { scope = scope; part = Test x }) ≡ true
+    → expression_names a x.expr ≡ true
+test_named parts m scope a x low e =
+    let p : Placed ℕ = record { scope = scope; part = Test x } in
+    test_passes (known_in parts m) a scope x low (record { seen = seen_names (known_in parts m) p e; bindings = refl }) a
+    (omega arith)

@@ -1,6 +1,6 @@
 -- Each derived statement names only what is there, where its test and its body do.
 use Rattle.std.proofs.Common.{◌≡◌, refl, ap, ◌∙◌, subst, ℕ, zero, suc, ◌+◌, ◌≤◌, Bool, true, List, [], ◌∷◌, length, arith}
-use Rattle.std.proofs.Common.{replicate, Option, Some, None, false, take, drop, ◌/◌}
+use Rattle.std.proofs.Common.{replicate, Option, false, take, drop, ◌/◌}
 use Rattle.std.proofs.lemmas.List.{length-take, length-drop}
 use Rattle.std.specs.Prelude.{◌&&◌, nat_lt}
 use Rattle.hh_base.specs.declared.value.Pos.{Pos}
@@ -176,9 +176,11 @@ module _ (modules : ℕ → Naming) (pos : Pos) where
   abort_counted c a b n d r t x =
       let w = row.listed K (row.await_count K n d ∷ K.emit_counter ∷ K.exit ∷ []) in
       let counts : Passes true b b w =
-      listed_named true b b (row.await_count K n d ∷ K.emit_counter ∷ K.exit ∷ [])
-      (b, awaits_count true b n d (tests_later a b d x.grows t),
-      (b, record { is = refl; grows = omega arith }, (b, leaf true b, refl))) in
+      listed_named true b b (row.await_count K n d ∷ K.emit_counter ∷ K.exit ∷ []) (
+        b,
+        awaits_count true b n d (tests_later a b d x.grows t),
+        (b, record { is = refl; grows = omega arith }, (b, leaf true b, refl)),
+      ) in
       let inner = ended_named true a b (K.suspend_counted r) w (counted_named a b r x) counts in
       record { is = inner.is; grows = inner.grows }
 

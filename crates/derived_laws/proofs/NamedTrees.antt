@@ -1,5 +1,5 @@
 -- Each block of a linked text names only what is there.
-use Rattle.std.proofs.Common.{◌≡◌, ℕ, zero, suc, ◌+◌, ◌<◌, ◌≤◌, Bool, true, false, List, [], ◌∷◌, ◌++◌, length, map, Some}
+use Rattle.std.proofs.Common.{◌≡◌, ℕ, suc, ◌+◌, ◌<◌, ◌≤◌, Bool, true, false, List, [], ◌∷◌, ◌++◌, length, map, Some}
 use Rattle.std.proofs.Common.{None, Option, refl, sym, ap, subst, ◌∙◌, arith, append-nil}
 use Rattle.std.proofs.lemmas.Bool.{lt-ltb, eqb-true}
 use Rattle.std.specs.Prelude.{◌&&◌, ◌==◌, nat_lt, slice_get, is_some}
@@ -38,7 +38,8 @@ use Rattle.kernel_expand.proofs.Reading.{places, same_reads}
 use Rattle.kernel_expand.proofs.Standing.{found_in}
 use Rattle.kernel_expand.proofs.Progress.{both_true}
 use Rattle.derived_laws.specs.Naming.{Naming, naming, nothing_named, expression_names, value_names, result_names}
-use Rattle.derived_laws.specs.Naming.{async_names, bindings_name}
+use Rattle.derived_laws.specs.Naming.{bindings_name}
+use Rattle.derived_laws.specs.Bodies.{ScopeBelow}
 use Rattle.derived_laws.proofs.NamedRows as row
 use Rattle.derived_laws.proofs.NamedRows.{Passes, Tests}
 
@@ -51,9 +52,6 @@ IsSeen scope n = is_some (signal_at scope n.name) ≡ true
 pub record Tested (known : Known) (p : Placed ℕ) : Type 0 where
   pub seen : AllByRecursion (IsSeen p.scope) (signals_named p.part)
   pub bindings : binds_interface known p.part ≡ true
-
-abbrev pub ScopeBelow : ℕ → InScope → Type 0
-ScopeBelow a scope = AllByRecursion (λ (s : Signal). s.place < a) scope.signals
 
 pub scope_later : (a b : ℕ) (scope : InScope) → a ≤ b → ScopeBelow a scope → ScopeBelow b scope
 scope_later a b scope le h =
@@ -114,6 +112,12 @@ as_many f [] (d ∷ ds) e = absurd (let no : ⊥ = cc in no)
 as_many f (b ∷ bs) [] e = absurd (let no : ⊥ = cc in no)
 as_many f (b ∷ bs) (d ∷ ds) e = ap suc (as_many f bs ds (both_true (f b d) (each_binding f bs ds) e).1)
 
+pub test_passes : (known : Known) (a : ℕ) (scope : InScope) (x : ExprAt ℕ) → ScopeBelow a scope
+    → Tested known (record { scope = scope; part = Test x }) → Tests a (test_of x)
+test_passes known a scope x h t =
+    reads_below a x.expr (subst (AllByRecursion (NameBelow a)) (append-nil (parts.signals_read x.expr))
+    (all_below a scope h (signals_named (Test x)) t.seen))
+
 module _ (known : Known) (modules : ℕ → Naming)
     (runs : (m : ℕ) (ds : List InterfaceNode) → slice_get known.interfaces m ≡ Some ds
     → (modules m false (length ds)).0 ≡ true) where
@@ -130,12 +134,6 @@ module _ (known : Known) (modules : ℕ → Naming)
   split ps qs h = both_all (Tested known) ps qs h
 
   -- ---- parts
-
-  test_passes : (a : ℕ) (scope : InScope) (x : ExprAt ℕ) → ScopeBelow a scope
-      → Tested known (record { scope = scope; part = Test x }) → Tests a (test_of x)
-  test_passes a scope x h t =
-      reads_below a x.expr (subst (AllByRecursion (NameBelow a)) (append-nil (parts.signals_read x.expr))
-      (all_below a scope h (signals_named (Test x)) t.seen))
 
   signal_passes : (a : ℕ) (scope : InScope) (n : NameAt ℕ) (v : Option (ExprAt ℕ)) → ScopeBelow a scope
       → Tested known (record { scope = scope; part = Emission n v }) → nat_lt n.name a ≡ true
@@ -275,22 +273,22 @@ module _ (known : Known) (modules : ℕ → Naming)
       → row.DelayTests before.signals d
       × Met (of_block k b.0) before (parts.then (parts.delay_walk d) (block_walk b.0) scope before).after
   behind_delay (delay.Later (later.Once x)) b scope before low h =
-      (test_passes before.signals scope x low h.0, b.1 scope before low h.1)
+      (test_passes known before.signals scope x low h.0, b.1 scope before low h.1)
   behind_delay (delay.Later (later.Count n x)) b scope before low h =
-      (test_passes before.signals scope x low h.1.0, b.1 scope before low h.1.1)
+      (test_passes known before.signals scope x low h.1.0, b.1 scope before low h.1.1)
   behind_delay (delay.Immediate x) b scope before low h =
-      (test_passes before.signals scope x low h.0, b.1 scope before low h.1)
+      (test_passes known before.signals scope x low h.0, b.1 scope before low h.1)
 
   of_later : (d : Later ℕ) (scope : InScope) (before : Declared) → ScopeBelow before.signals scope
       → Holds (parts.plain_walk d scope before).parts → row.LaterTests before.signals d
-  of_later (later.Once x) scope before low h = test_passes before.signals scope x low h.0
-  of_later (later.Count n x) scope before low h = test_passes before.signals scope x low h.1.0
+  of_later (later.Once x) scope before low h = test_passes known before.signals scope x low h.0
+  of_later (later.Count n x) scope before low h = test_passes known before.signals scope x low h.1.0
 
   of_delay : (d : Delay ℕ) (scope : InScope) (before : Declared) → ScopeBelow before.signals scope
       → Holds (parts.delay_walk d scope before).parts → row.DelayTests before.signals d
-  of_delay (delay.Later (later.Once x)) scope before low h = test_passes before.signals scope x low h.0
-  of_delay (delay.Later (later.Count n x)) scope before low h = test_passes before.signals scope x low h.1.0
-  of_delay (delay.Immediate x) scope before low h = test_passes before.signals scope x low h.0
+  of_delay (delay.Later (later.Once x)) scope before low h = test_passes known before.signals scope x low h.0
+  of_delay (delay.Later (later.Count n x)) scope before low h = test_passes known before.signals scope x low h.1.0
+  of_delay (delay.Immediate x) scope before low h = test_passes known before.signals scope x low h.0
 
   later_stays : (d : Later ℕ) (scope : InScope) (before : Declared)
       → (parts.plain_walk d scope before).after ≡ before
@@ -330,7 +328,7 @@ module _ (known : Known) (modules : ℕ → Naming)
       let w = block_walk p.0 scope before in
       let q = split w.parts [] h.1 in
       row.choice_named modules pos c before.signals w.after.signals w.after.signals (test_of x) (of_block k p.0)
-      nothing_named (test_passes before.signals scope x low h.0) (p.1 scope before low q.0 c)
+      nothing_named (test_passes known before.signals scope x low h.0) (p.1 scope before low q.0 c)
       (nothing_passes w.after c))
   statement_met (s.If x p (Some o)) =
       by_layer (s.If x p.0 (Some o.0))
@@ -340,7 +338,7 @@ module _ (known : Known) (modules : ℕ → Naming)
       let q = split w.parts v.parts h.1 in
       let m = p.1 scope before low q.0 c in
       row.choice_named modules pos c before.signals w.after.signals v.after.signals (test_of x) (of_block k p.0)
-      (of_block k o.0) (test_passes before.signals scope x low h.0) m
+      (of_block k o.0) (test_passes known before.signals scope x low h.0) m
       (o.1 scope w.after (scope_later before.signals w.after.signals scope m.grows low) q.1 c))
   statement_met (s.Loop p) = by_layer (s.Loop p.0) (λ pos scope before low h c. p.1 scope before low h c)
   statement_met (s.Fork ps) =
@@ -388,7 +386,7 @@ module _ (known : Known) (modules : ℕ → Naming)
       by_layer (s.Suspend i x p.0)
       (λ pos scope before low h c.
       row.suspended_named modules pos c before.signals (block_walk p.0 scope before).after.signals i (test_of x)
-      (of_block k p.0) (test_passes before.signals scope x low h.0) (p.1 scope before low h.1))
+      (of_block k p.0) (test_passes known before.signals scope x low h.0) (p.1 scope before low h.1))
   statement_met (s.Signal sigs p) =
       by_layer (s.Signal sigs p.0)
       (λ pos scope before low h c.

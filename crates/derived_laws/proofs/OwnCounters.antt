@@ -1,5 +1,5 @@
 -- The counter of a row is its own: the body, and its test, do not mention it.
-use Rattle.std.proofs.Common.{◌≡◌, refl, sym, ap, ◌∙◌, subst, ℕ, zero, suc, inl, inr, ◌+◌, ◌<◌, Bool, true, false, Option}
+use Rattle.std.proofs.Common.{◌≡◌, refl, sym, ap, subst, ℕ, zero, suc, inl, inr, ◌+◌, ◌<◌, Bool, true, false, Option}
 use Rattle.std.proofs.Common.{Some, None, List, [], ◌∷◌, ◌++◌, map, length, arith, length-append}
 use Rattle.std.proofs.lemmas.List.{length-map}
 use Rattle.std.proofs.lemmas.Bool.{ltb-true, cases_lt, ne_eqb}
@@ -25,24 +25,23 @@ use Rattle.module_tree.specs.Scopes.{InScope, Declared}
 use Rattle.hh_term.specs.declared.program.SignalDecl.{SignalDecl}
 use Rattle.hh_term.specs.Kernel.{Kernel, AsyncSite}
 use Rattle.hh_term.specs.MustCan.{table_of}
-use Rattle.hh_term.specs.Statement.{Statement}
 use Rattle.hh_term.specs.Placed.{Placed, unplaced}
 use Rattle.hh_term.specs.Placed as placed
 use Rattle.kernel_expand.specs.Operations.{Operations}
 use Rattle.kernel_expand.specs.Interpretation.{of_block}
 use Rattle.kernel_expand.specs.Modules.{of_module, body_means}
 use Rattle.kernel_expand.specs.Numbering.{Piece, Around, Numbered, numbering, number_of, in_numbers, value_in_numbers}
-use Rattle.kernel_expand.specs.Numbering.{local_signal, counter_signal, with_signal, with_place, with_site, with_trap}
+use Rattle.kernel_expand.specs.Numbering.{local_signal, counter_signal, with_signal, with_place, with_trap}
 use Rattle.kernel_expand.specs.Numbering.{in_trap, traps_between, result_in_numbers, site_in_numbers, inside_run}
-use Rattle.kernel_expand.specs.Numbering.{behind_run, no_traps, of_two}
+use Rattle.kernel_expand.specs.Numbering.{no_traps, of_two}
 use Rattle.kernel_expand.specs.Expansion.{no_module}
 use Rattle.kernel_expand.proofs.Alike.{Alike}
 use Rattle.kernel_expand.proofs.AlikeTrees.{blocks_alike, callees}
-use Rattle.kernel_expand.proofs.Good.{there, still}
+use Rattle.kernel_expand.proofs.Good.{there}
 use Rattle.kernel_expand.proofs.Replaced.{both_all}
 use Rattle.derived_laws.specs.Mentions.{IsOther, Unread, OptionUnread, AllUnread, IsOtherTarget, Unmentioned}
 use Rattle.derived_laws.specs.Naming.{Naming, naming, nothing_named, expression_names, value_names, result_names}
-use Rattle.derived_laws.specs.Naming.{async_names, bindings_name, naming_two}
+use Rattle.derived_laws.specs.Naming.{bindings_name, naming_two}
 use Rattle.derived_laws.specs.Replacements.{expression_with}
 use Rattle.derived_laws.specs.Runs.{Begins}
 use Rattle.derived_laws.specs.CountedAborts.{IsOwn, in_counter, counted_body}

@@ -1,5 +1,5 @@
 -- A statement without an exit to a trap does not leave that trap.
-use Rattle.std.proofs.Common.{◌≡◌, refl, sym, ap, ◌∙◌, ℕ, zero, suc, ◌+◌, ◌≤◌, Bool, true, false, cond, max, ◌&&◌, arith}
+use Rattle.std.proofs.Common.{◌≡◌, refl, sym, ◌∙◌, ℕ, zero, suc, ◌+◌, Bool, true, false, cond, max, ◌&&◌, arith}
 use Rattle.std.proofs.Common.{Option, Some, None, List, [], ◌∷◌, map, inl, inr}
 use Rattle.std.proofs.lemmas.Bool.{cases_lt, eqb-false, ne_eqb}
 use Rattle.std.specs.Prelude.{◌==◌, zip}
@@ -12,11 +12,11 @@ use Rattle.host_expr.specs.Environment.{Env, is_known, is_decided, unsolved, put
 use Rattle.host_expr.specs.Evaluation.{eval_of, truth}
 use Rattle.hh_term.specs.Statement.{Statement, Nothing, Pause, Emit, If, Suspend, Seq, Par, Loop, Trap, Exit, Local}
 use Rattle.hh_term.specs.Statement.{Async}
-use Rattle.hh_term.specs.Selection.{Selection, AtPause, AtAsync, First, Second, Both, Inside, Scope, Task, Start}
+use Rattle.hh_term.specs.Selection.{Selection, AtAsync, First, Second, Both, Inside, Scope, Task, Start}
 use Rattle.hh_term.specs.Selection.{Resume}
 use Rattle.hh_term.specs.MustCan.{Table, MustCan, Executed, must_can, solve, emitted, all_known, lower}
 use Rattle.hh_term.specs.Touches.{held_mark, held_touches}
-use Rattle.hh_term.specs.Step.{Stepped, ◌>>=◌, completes, rests, closed, wrapped, wrap, with_fault, joined, beside}
+use Rattle.hh_term.specs.Step.{Stepped, ◌>>=◌, completes, rests, wrapped, wrap, with_fault, joined, beside}
 use Rattle.hh_term.specs.Step.{trap_step, on_test, emit_step, then_start, leave, scope_mark, local_step, add_faults}
 use Rattle.hh_term.specs.Step.{argument_value, start_async, async_step, answer_step, resume_async, step}
 use Rattle.derived_laws.specs.Bodies.{NeverExits}

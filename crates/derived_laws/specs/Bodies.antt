@@ -1,8 +1,15 @@
 -- What the rules ask of a body, of the bodies that a text has: its numbers, its exits. (This project's own.)
 use Rattle.std.specs.Prelude.{◌≡◌, ℕ, suc, ◌==◌, ◌<◌, true, false, List, length}
+use Rattle.std.specs.List.{AllByRecursion}
 use Rattle.hh_base.specs.declared.value.Pos.{Pos}
 use Rattle.host_expr.specs.declared.expr.Expr.{Expr}
 use Rattle.host_expr.specs.Environment.{Env}
+use Rattle.module_tree.specs.declared.source.ExprAt.{ExprAt}
+use Rattle.module_tree.specs.declared.source.Part.{Part}
+use Rattle.module_tree.specs.Callables.{modules_of}
+use Rattle.module_tree.specs.Scopes.{InScope, Declared, Signal}
+use Rattle.module_tree.specs.Parts.{Placed, Test, block_walk}
+use Rattle.module_tree.specs.LinkedFacts.{IsLinked, known_in, is_in_scope, binds_interface}
 use Rattle.module_tree.specs.declared.source.BlockNode.{BlockNode}
 use Rattle.module_tree.specs.declared.source.ModuleNode.{ModuleNode}
 use Rattle.hh_term.specs.Statement.{Statement, If, Suspend, Seq, Par, Loop, Trap, Exit, Local}
@@ -40,9 +47,13 @@ block_piece modules deep = of_block (numbering (of_module numbering no_module mo
 abbrev pub block_naming : List (ModuleNode ℕ) → ℕ → BlockNode ℕ → Naming
 block_naming modules deep = of_block (naming (of_module naming nothing_named modules deep))
 
+-- the signals in scope are among the first a of their module
+abbrev pub ScopeBelow : ℕ → InScope → Type 0
+ScopeBelow a scope = AllByRecursion (λ (s : Signal). s.place < a) scope.signals
+
 -- Where a test names only signals that are declared before it, a block leaves their numbers as they are. And a
 -- statement without an exit to the trap round it does not leave that trap. And the counter of a row is its own, where
--- test and body name only what is there.
+-- test and body name only what is there, as those of a linked text do.
 pub record BodiesObey : Type 0 where
   pub stands : (modules : List (ModuleNode ℕ)) (deep : ℕ) (b : BlockNode ℕ) (d : Expr ℕ) (a : Around)
       (n : Numbered) → expression_names (length n.places) d ≡ true → StandsIn (block_piece modules deep b) d a n
@@ -56,3 +67,13 @@ pub record BodiesObey : Type 0 where
       → (block_naming modules deep b false (length n.places)).0 ≡ true
       → Begins K (block_piece modules deep b (in_counter a n) (with_signal (counter_signal pos) n)).1 →
       IsOwn (table_of K) (length n.signals) (in_numbers n d) (counted_body pos (block_piece modules deep b) a n)
+  pub test_named : (parts : List (Part ℕ)) (m : ModuleNode ℕ) (scope : InScope) (a : ℕ) (x : ExprAt ℕ)
+      → ScopeBelow a scope → is_in_scope (known_in parts m) (record { scope = scope; part = Test x }) ≡ true
+      → expression_names a x.expr ≡ true
+  pub block_named : (parts : List (Part ℕ)) → IsLinked parts → (deep : ℕ) (m : ModuleNode ℕ) (b : BlockNode ℕ)
+      (scope : InScope) (before : Declared) → ScopeBelow before.signals scope
+      → AllByRecursion (λ p. is_in_scope (known_in parts m) p ≡ true) (block_walk b scope before).parts
+      → AllByRecursion (λ (p : Placed ℕ). binds_interface (known_in parts m) p.part ≡ true)
+      (block_walk b scope before).parts →
+      block_naming (modules_of parts) deep b false before.signals
+      ≡ (true, (block_walk b scope before).after.signals)
