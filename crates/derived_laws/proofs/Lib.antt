@@ -29,3 +29,5 @@ pub mod KeptNumbers
 pub mod Staying
 pub mod OwnCounters
 pub mod BodyRules
+pub mod ExitRows
+pub mod ExitTrees

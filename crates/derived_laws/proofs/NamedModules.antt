@@ -50,7 +50,7 @@ each_tested known (p ∷ ps) s b =
     (record { seen = seen_names known p s.0; bindings = b.0 }, each_tested known ps s.1 b.1)
 
 module _ (parts : List (Part ℕ)) (linked : IsLinked parts) where
-  in_module : (test : Known → Placed ℕ → Bool) → in_each_part test parts ≡ true → (i : ℕ) (m : ModuleNode ℕ)
+  pub in_module : (test : Known → Placed ℕ → Bool) → in_each_part test parts ≡ true → (i : ℕ) (m : ModuleNode ℕ)
       → slice_get (modules_of parts) i ≡ Some m
       → AllByRecursion (λ p. test (known_in parts m) p ≡ true) (parts_of m)
   in_module test e i m at =

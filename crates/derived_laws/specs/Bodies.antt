@@ -1,5 +1,5 @@
 -- What the rules ask of a body, of the bodies that a text has: its numbers, its exits. (This project's own.)
-use Rattle.std.specs.Prelude.{◌≡◌, ℕ, suc, ◌==◌, ◌<◌, true, false, List, length}
+use Rattle.std.specs.Prelude.{◌≡◌, ℕ, suc, ◌==◌, ◌<◌, true, false, List, length, Some, None, slice_get}
 use Rattle.std.specs.List.{AllByRecursion}
 use Rattle.hh_base.specs.declared.value.Pos.{Pos}
 use Rattle.host_expr.specs.declared.expr.Expr.{Expr}
@@ -7,7 +7,7 @@ use Rattle.host_expr.specs.Environment.{Env}
 use Rattle.module_tree.specs.declared.source.ExprAt.{ExprAt}
 use Rattle.module_tree.specs.declared.source.Part.{Part}
 use Rattle.module_tree.specs.Callables.{modules_of}
-use Rattle.module_tree.specs.Scopes.{InScope, Declared, Signal}
+use Rattle.module_tree.specs.Scopes.{InScope, Declared, Signal, TrapName}
 use Rattle.module_tree.specs.Parts.{Placed, Test, block_walk}
 use Rattle.module_tree.specs.LinkedFacts.{IsLinked, known_in, is_in_scope, binds_interface}
 use Rattle.module_tree.specs.declared.source.BlockNode.{BlockNode}
@@ -17,10 +17,11 @@ use Rattle.hh_term.specs.Selection.{Task}
 use Rattle.hh_term.specs.Kernel.{Kernel}
 use Rattle.hh_term.specs.MustCan.{Table, table_of}
 use Rattle.hh_term.specs.Step.{step}
+use Rattle.hh_term.specs.Placed.{unplaced}
 use Rattle.kernel_expand.specs.Interpretation.{of_block}
 use Rattle.kernel_expand.specs.Modules.{of_module}
 use Rattle.kernel_expand.specs.Numbering.{Piece, Around, Numbered, numbering, number_of, in_numbers, with_signal}
-use Rattle.kernel_expand.specs.Numbering.{counter_signal}
+use Rattle.kernel_expand.specs.Numbering.{counter_signal, traps_between}
 use Rattle.kernel_expand.specs.Expansion.{no_module}
 use Rattle.derived_laws.specs.Naming.{Naming, naming, nothing_named, expression_names}
 use Rattle.derived_laws.specs.Runs.{Begins}
@@ -47,13 +48,17 @@ block_piece modules deep = of_block (numbering (of_module numbering no_module mo
 abbrev pub block_naming : List (ModuleNode ℕ) → ℕ → BlockNode ℕ → Naming
 block_naming modules deep = of_block (naming (of_module naming nothing_named modules deep))
 
+-- the traps in scope stand round it
+abbrev pub Opened : List TrapName → Around → Type 0
+Opened ts a = AllByRecursion (λ (t : TrapName). traps_between t.place a.traps < length a.traps) ts
+
 -- the signals in scope are among the first a of their module
 abbrev pub ScopeBelow : ℕ → InScope → Type 0
 ScopeBelow a scope = AllByRecursion (λ (s : Signal). s.place < a) scope.signals
 
--- Where a test names only signals that are declared before it, a block leaves their numbers as they are. And a
--- statement without an exit to the trap round it does not leave that trap. And the counter of a row is its own, where
--- test and body name only what is there, as those of a linked text do.
+-- Where a test names only signals that are declared before it, a block leaves their numbers as they are, and the
+-- counter of a row is its own. A statement without an exit to the trap round it does not leave that trap. Tests and
+-- blocks of a linked text are so.
 pub record BodiesObey : Type 0 where
   pub stands : (modules : List (ModuleNode ℕ)) (deep : ℕ) (b : BlockNode ℕ) (d : Expr ℕ) (a : Around)
       (n : Numbered) → expression_names (length n.places) d ≡ true → StandsIn (block_piece modules deep b) d a n
@@ -77,3 +82,9 @@ pub record BodiesObey : Type 0 where
       (block_walk b scope before).parts →
       block_naming (modules_of parts) deep b false before.signals
       ≡ (true, (block_walk b scope before).after.signals)
+  pub block_stays : (parts : List (Part ℕ)) → IsLinked parts → (deep : ℕ) (m : ModuleNode ℕ) (b : BlockNode ℕ)
+      (scope : InScope) (before : Declared)
+      → AllByRecursion (λ p. is_in_scope (known_in parts m) p ≡ true) (block_walk b scope before).parts
+      → (a : Around) (n : Numbered) → n.traps ≡ before.traps → Opened scope.traps a
+      → slice_get a.traps 0 ≡ Some None
+      → NeverExits 0 (unplaced (block_piece (modules_of parts) deep b a n).0)

@@ -117,8 +117,8 @@ pub fn run_rule()
     ensures { RunObeys }
 {}
 
-/// A block leaves the numbers of the signals that are declared before it as they are, and a statement without an exit
-/// to the trap round it does not leave that trap: so the bodies that a text has are as the rules ask.
+/// The bodies of a linked text are as the other rules ask: they leave the numbers of the test's signals as they are,
+/// do not mention the row's counter, and have no exit to its trap.
 pub fn bodies_rule()
     ensures { BodiesObey }
 {}
