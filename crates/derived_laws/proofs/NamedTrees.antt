@@ -39,7 +39,7 @@ use Rattle.kernel_expand.proofs.Standing.{found_in}
 use Rattle.kernel_expand.proofs.Progress.{both_true}
 use Rattle.derived_laws.specs.Naming.{Naming, naming, nothing_named, expression_names, value_names, result_names}
 use Rattle.derived_laws.specs.Naming.{bindings_name}
-use Rattle.derived_laws.specs.Bodies.{ScopeBelow}
+use Rattle.derived_laws.specs.Runs.{ScopeBelow}
 use Rattle.derived_laws.proofs.NamedRows as row
 use Rattle.derived_laws.proofs.NamedRows.{Passes, Tests}
 
@@ -57,7 +57,7 @@ pub scope_later : (a b : ℕ) (scope : InScope) → a ≤ b → ScopeBelow a sco
 scope_later a b scope le h =
     all_map (λ (s : Signal). s.place < a) (λ (s : Signal). s.place < b) (λ s k. omega (arith, le, k)) scope.signals h
 
-abbrev NameBelow : ℕ → NameAt ℕ → Type 0
+abbrev pub NameBelow : ℕ → NameAt ℕ → Type 0
 NameBelow a n = n.name < a
 
 below : (a : ℕ) (scope : InScope) → ScopeBelow a scope → (n : NameAt ℕ) → IsSeen scope n → NameBelow a n
@@ -65,7 +65,7 @@ below a scope h n e =
     let q = found_in (λ (s : Signal). s.place < a) (λ (s : Signal). s.place == n.name) scope.signals h e in
     subst (λ p. p < a) (eqb-true q.0.place n.name q.1) q.2
 
-all_below : (a : ℕ) (scope : InScope) → ScopeBelow a scope → (ns : List (NameAt ℕ))
+pub all_below : (a : ℕ) (scope : InScope) → ScopeBelow a scope → (ns : List (NameAt ℕ))
     → AllByRecursion (IsSeen scope) ns → AllByRecursion (NameBelow a) ns
 all_below a scope h ns e = all_map (IsSeen scope) (NameBelow a) (below a scope h) ns e
 
@@ -105,7 +105,7 @@ arguments_below a (x ∷ xs) h =
     (λ i. reads_below a x.expr q.0 a (omega arith) i && list_all (λ (x : ExprAt ℕ). expression_names a x.expr) xs)
     ∙ arguments_below a xs q.1
 
-as_many : (f : Binding ℕ → InterfaceNode → Bool) (bs : List (Binding ℕ)) (ds : List InterfaceNode)
+pub as_many : (f : Binding ℕ → InterfaceNode → Bool) (bs : List (Binding ℕ)) (ds : List InterfaceNode)
     → each_binding f bs ds ≡ true → length bs ≡ length ds
 as_many f [] [] e = refl
 as_many f [] (d ∷ ds) e = absurd (let no : ⊥ = cc in no)

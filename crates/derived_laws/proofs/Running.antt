@@ -24,7 +24,7 @@ use Rattle.derived_laws.specs.Runs.{as_program, bound, signal_for, site_for}
 use Rattle.derived_laws.proofs.ReplacedBags.{must_can_replaced}
 use Rattle.derived_laws.proofs.ReplacedSteps.{step_replaced}
 use Rattle.derived_laws.proofs.ReplacedMarks.{rests_replaced}
-use Rattle.derived_laws.proofs.NamedModules.{modules_named}
+use Rattle.derived_laws.proofs.NamedModules.{run_binds}
 use Rattle.derived_laws.proofs.RunPieces.{Stands, Matches, modules_alike}
 
 pub replaced_obeys : ReplacedObeys
@@ -150,7 +150,8 @@ module _ (c : Call) (b : Binds c) where
 pub run_obeys : RunObeys
 run_obeys =
     record {
-      own = λ parts linked deep i m at. modules_named parts linked deep i m at;
+      binds = λ parts linked m scope callee c same at seen bound low numbers.
+          run_binds parts linked m scope callee c same at seen bound low numbers;
       must_can = λ c K K' b ps t i E. musts c b K K' ps t i E;
       step = λ c K K' b ps t E. steps c b K K' ps t E;
       marks = λ c K K' b ps m r. rests c b K K' ps m r;

@@ -7,7 +7,7 @@ use Rattle.host_expr.specs.Environment.{Env}
 use Rattle.module_tree.specs.declared.source.ExprAt.{ExprAt}
 use Rattle.module_tree.specs.declared.source.Part.{Part}
 use Rattle.module_tree.specs.Callables.{modules_of}
-use Rattle.module_tree.specs.Scopes.{InScope, Declared, Signal, TrapName}
+use Rattle.module_tree.specs.Scopes.{InScope, Declared, TrapName}
 use Rattle.module_tree.specs.Parts.{Placed, Test, block_walk}
 use Rattle.module_tree.specs.LinkedFacts.{IsLinked, known_in, is_in_scope, binds_interface}
 use Rattle.module_tree.specs.declared.source.BlockNode.{BlockNode}
@@ -24,7 +24,7 @@ use Rattle.kernel_expand.specs.Numbering.{Piece, Around, Numbered, numbering, nu
 use Rattle.kernel_expand.specs.Numbering.{counter_signal, traps_between}
 use Rattle.kernel_expand.specs.Expansion.{no_module}
 use Rattle.derived_laws.specs.Naming.{Naming, naming, nothing_named, expression_names}
-use Rattle.derived_laws.specs.Runs.{Begins}
+use Rattle.derived_laws.specs.Runs.{Begins, ScopeBelow}
 use Rattle.derived_laws.specs.Aborts.{StandsIn}
 use Rattle.derived_laws.specs.CountedAborts.{IsOwn, StandsBelow, in_counter, counted_body}
 use Rattle.derived_laws.specs.Repeats.{StaysIn}
@@ -51,10 +51,6 @@ block_naming modules deep = of_block (naming (of_module naming nothing_named mod
 -- the traps in scope stand round it
 abbrev pub Opened : List TrapName → Around → Type 0
 Opened ts a = AllByRecursion (λ (t : TrapName). traps_between t.place a.traps < length a.traps) ts
-
--- the signals in scope are among the first a of their module
-abbrev pub ScopeBelow : ℕ → InScope → Type 0
-ScopeBelow a scope = AllByRecursion (λ (s : Signal). s.place < a) scope.signals
 
 -- Where a test names only signals that are declared before it, a block leaves their numbers as they are, and the
 -- counter of a row is its own. A statement without an exit to the trap round it does not leave that trap. Tests and

@@ -9,7 +9,10 @@ use Rattle.module_tree.specs.declared.source.InterfaceNode.{InterfaceNode}
 use Rattle.module_tree.specs.declared.source.ModuleNode.{ModuleNode}
 use Rattle.module_tree.specs.declared.source.Part.{Part}
 use Rattle.module_tree.specs.Callables.{modules_of}
-use Rattle.module_tree.specs.LinkedFacts.{IsLinked}
+use Rattle.module_tree.specs.declared.source.NameAt.{NameAt}
+use Rattle.module_tree.specs.Scopes.{InScope, Signal}
+use Rattle.module_tree.specs.Parts as part
+use Rattle.module_tree.specs.LinkedFacts.{IsLinked, known_in, is_in_scope, binds_interface}
 use Rattle.hh_term.specs.declared.program.SignalDecl.{SignalDecl}
 use Rattle.hh_term.specs.Statement.{Statement}
 use Rattle.hh_term.specs.Selection.{Selection, Task}
@@ -34,6 +37,10 @@ pub record ReplacedObeys : Type 0 where
       → step T' (statement_with f g p) t E ≡ option_map (stepped_with f g) (step T p t (seen_by f E))
   pub marks : (f g : ℕ → ℕ) (T T' : Table) (p : Statement) (m : Selection) → Declares T T' f g p
       → RestsAt T' (statement_with f g p) m → RestsAt T p m
+
+-- the signals in scope are among the first a of their module
+abbrev pub ScopeBelow : ℕ → InScope → Type 0
+ScopeBelow a scope = AllByRecursion (λ (s : Signal). s.place < a) scope.signals
 
 -- a run, with what stands round it and what is numbered before it in the caller's program
 pub record Call : Type 0 where
@@ -89,12 +96,15 @@ pub record Programs (c : Call) (K K' : Kernel) : Type 0 where
   pub caller : Begins K' (expanded c).1
   pub bodies : K'.bodies ≡ K.bodies
 
--- the callee reacts, each signal of its interface being the signal that is bound to it; each module of a linked text
--- names its own
+-- the callee reacts, each signal of its interface being the signal that is bound to it; and the runs of a linked text
+-- bind all
 pub record RunObeys : Type 0 where
-  pub own : (parts : List (Part ℕ)) → IsLinked parts → (deep i : ℕ) (m : ModuleNode ℕ)
-      → slice_get (modules_of parts) i ≡ Some m
-      → names_its_own (modules_of parts) deep i (length m.interface) ≡ true
+  pub binds : (parts : List (Part ℕ)) → IsLinked parts → (m : ModuleNode ℕ) (scope : InScope) (callee : NameAt ℕ)
+      (c : Call) → c.modules ≡ modules_of parts → c.callee ≡ callee.name
+      → is_in_scope (known_in parts m) (record { scope = scope; part = part.Call callee c.bindings }) ≡ true
+      → binds_interface (known_in parts m) (part.Call callee c.bindings) ≡ true
+      → ScopeBelow (length c.before.places) scope
+      → ((p : ℕ) → p < length c.before.places → number_of c.before p < length c.before.signals) → Binds c
   pub must_can : (c : Call) (K K' : Kernel) → Binds c → Programs c K K' → (t : Task) (i : Index) (E : Env) →
       must_can (table_of K') (unplaced (expanded c).0) t i E
       ≡ must_can_with (signal_for c)
