@@ -9,3 +9,7 @@ pub mod Counts
 pub mod CountedAborts
 pub mod CountedRepeats
 pub mod Mentions
+pub mod Replacements
+pub mod Naming
+pub mod Runs
+pub mod Bodies

@@ -8,6 +8,8 @@ ghost use Rattle.derived_laws.specs.Suspends.{SuspendImmediateObeys};
 ghost use Rattle.derived_laws.specs.Counts.{AwaitCountObeys, WeakAbortCountObeys};
 ghost use Rattle.derived_laws.specs.CountedAborts.{AbortCountObeys};
 ghost use Rattle.derived_laws.specs.CountedRepeats.{DoEveryCountObeys, EveryCountObeys};
+ghost use Rattle.derived_laws.specs.Bodies.{BodiesObey};
+ghost use Rattle.derived_laws.specs.Runs.{ReplacedObeys, RunObeys};
 
 /// `halt` rests, when it is started and in each later reaction.
 pub fn halt_rule()
@@ -102,4 +104,21 @@ pub fn do_every_count_rule()
 /// then on it is `do p every count (n, d)`.
 pub fn every_count_rule()
     ensures { EveryCountObeys }
+{}
+
+/// A statement with its signals and sites replaced does what the statement does in the environment in which each
+/// signal has the status and the value of that in its place.
+pub fn replaced_signals_rule()
+    ensures { ReplacedObeys }
+{}
+
+/// `run m(..)` is the body of m in which each signal of m's interface is the caller's signal that is bound to it.
+pub fn run_rule()
+    ensures { RunObeys }
+{}
+
+/// The bodies of a linked text are as the other rules ask: they leave the numbers of the test's signals as they are,
+/// do not mention the row's counter, and have no exit to its trap.
+pub fn bodies_rule()
+    ensures { BodiesObey }
 {}
