@@ -1,0 +1,6 @@
+pub mod Lists
+pub mod Renamed
+pub mod Shapes
+pub mod Copying
+pub mod Scoping
+pub mod Rules

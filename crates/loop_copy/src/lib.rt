@@ -1,0 +1,7 @@
+//! Programs in which each loop's body stands twice, so that no signal has two incarnations in one reaction.
+#![tactic(auto)]
+
+pub mod copied;
+mod copier;
+pub mod laws;
+mod renaming;
