@@ -4,3 +4,4 @@ pub mod Shapes
 pub mod Copying
 pub mod Scoping
 pub mod Rules
+pub mod Whole

@@ -70,7 +70,7 @@ module _ (K : Kernel) (r : IsProgram K) where
       (all_range (λ s. (K.interface ≤ s) × (s < length K.signals)) K.interface (length K.signals - K.interface)
       (λ i h k. (h, omega (arith, declared, k))))
 
-  within : LiesWithin (length K.signals) (length K.sites) K.statement
+  pub within : LiesWithin (length K.signals) (length K.sites) K.statement
   within =
       lies_within (length K.signals) (length K.sites) K.statement
       (all_map (λ s. (K.interface ≤ s) × (s < length K.signals)) (λ s. s < length K.signals) (λ s h. h.1) (locals_of K.statement)

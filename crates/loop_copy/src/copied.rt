@@ -1,14 +1,11 @@
 //! Copied programs.
 
-ghost use Rattle.std.specs.Prelude.{◌≡◌, IfOk};
+ghost use Rattle.std.specs.Prelude.{◌≡◌};
 ghost use Rattle.hh_term.specs.Views.{kernel_from};
 ghost use Rattle.loop_copy.specs.IsCopied.{IsCopied};
 
-use crate::copier::{Copier, number};
-use hh_base::value::NoMemory;
-use hh_term::program::{BodyDecl, Program, SignalDecl, Site};
+use hh_term::program::{BodyDecl, SignalDecl, Site};
 use hh_term::term::Term;
-use std::alloc::Global;
 
 /// A program in which each loop's body stands twice, the second time with locals and async sites of its own.
 /// Every copied program keeps the rules of `IsCopied`.
@@ -26,6 +23,27 @@ impl Copied {
     ghost use Rattle.std.specs.Prelude.{map};
     ghost use Rattle.hh_term.specs.Views.{body_of, site_of, statement_of};
     ghost use Rattle.loop_copy.specs.CopiedView.{copied_of};
+
+    /// The copied program of these declarations and this statement. The first `interface` signals are its interface, the
+    /// others its locals in the order of the statement; a node names signals, bodies and sites by their places in these lists.
+    pub fn new(
+        signals: Vec<SignalDecl>,
+        interface: u32,
+        bodies: Vec<BodyDecl>,
+        sites: Vec<Site>,
+        term: Term,
+    ) -> Copied
+        requires { ∥ IsCopied (kernel_from signals.items interface bodies.items sites.items term) ∥₁ }
+        ensures { copied_of result ≡ kernel_from signals.items interface bodies.items sites.items term }
+    {
+        Copied {
+            signals,
+            interface,
+            bodies,
+            sites,
+            term,
+        }
+    }
 
     /// The signals: the interface in its order, then the locals in the order of the statement.
     pub fn signals(&self) -> &[SignalDecl]

@@ -3,5 +3,7 @@
 
 pub mod copied;
 mod copier;
+mod declarations;
 pub mod laws;
+pub mod program;
 mod renaming;
