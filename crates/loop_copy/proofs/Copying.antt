@@ -1,6 +1,6 @@
 -- What the copy of each statement adds, from what those of its parts add.
-use Rattle.std.proofs.Common.{◌≡◌, ◌≢◌, ℕ, zero, suc, ◌+◌, ◌<◌, Bool, true, false, cond, eqb, List, [], ◌∷◌, ◌++◌, length, map, set}
-use Rattle.std.proofs.Common.{refl, sym, ap, subst, ◌∙◌, arith, get_or, eqb-true, eq-eqb, length-append, Option, Some, None}
+use Rattle.std.proofs.Common.{◌≡◌, ℕ, zero, suc, ◌+◌, ◌<◌, Bool, true, false, cond, eqb, List, [], ◌∷◌, ◌++◌, length, map, set}
+use Rattle.std.proofs.Common.{refl, sym, ap, subst, ◌∙◌, arith, get_or, eqb-true, eq-eqb, length-append, Option, Some}
 use Rattle.std.proofs.lemmas.List.{append-nil, append_assoc, length-map}
 use Rattle.std.specs.Prelude.{slice_get, option_map, option_to_list}
 use Rattle.host_expr.specs.Expression.{Expression}
@@ -167,8 +167,8 @@ module _ (K : Kernel) where
       → t ≡ renamed_site (numbers_in a.numbers) s → Copies K a d (Async i) (Async m)
   copies_async a d i m s t at e ns ss ts is =
       let these : map (renamed_site (numbers_in a.numbers)) (option_to_list (slice_get K.sites i))
-          ≡ renamed_site (numbers_in a.numbers) s ∷ [] =
-          ap (λ z. map (renamed_site (numbers_in a.numbers)) (option_to_list z)) at in
+      ≡ renamed_site (numbers_in a.numbers) s ∷ [] =
+      ap (λ z. map (renamed_site (numbers_in a.numbers)) (option_to_list z)) at in
       record {
         statement = ap Async e;
         adds = record {

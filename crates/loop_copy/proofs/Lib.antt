@@ -5,3 +5,4 @@ pub mod Copying
 pub mod Scoping
 pub mod Rules
 pub mod Whole
+pub mod Rows

@@ -1,5 +1,5 @@
 -- The copy of a program keeps the rules of copied programs.
-use Rattle.std.proofs.Common.{◌≡◌, ◌≢◌, ℕ, ◌+◌, ◌-◌, ◌<◌, ◌≤◌, List, [], ◌∷◌, ◌++◌, length, take, drop, refl, sym, ap, subst, ◌∙◌, arith}
+use Rattle.std.proofs.Common.{◌≡◌, ◌≢◌, ◌+◌, ◌-◌, ◌<◌, ◌≤◌, List, [], ◌∷◌, length, drop, refl, sym, ap, subst, ◌∙◌, arith}
 use Rattle.std.proofs.Common.{length-append, Some, Bool, true, false}
 use Rattle.std.specs.Prelude.{◌||◌, nat_lt, slice_get, IsTrue}
 use Rattle.std.specs.List.{AllByRecursion, range_with_len}
@@ -10,17 +10,17 @@ use Rattle.hh_term.specs.declared.program.SignalDecl.{SignalDecl}
 use Rattle.hh_term.specs.declared.limits.TheConstants.{COPIED_LIMIT, HEIGHT_LIMIT, TRAP_LIMIT}
 use Rattle.hh_term.specs.Kernel.{Kernel, AsyncSite}
 use Rattle.hh_term.specs.Pairs.{EachPair}
-use Rattle.hh_term.specs.Scopes.{IsInScope, locals_of, sites_of}
-use Rattle.hh_term.specs.Fits.{SignalFits, kinds_of}
-use Rattle.hh_term.specs.IsProgram.{IsProgram, NamesDiffer, NamesGoByPosition, interface_of, locals_declared}
-use Rattle.loop_copy.specs.Copies.{copied_program, copied_locals, copied_sites, local_count, async_count, items_at}
+use Rattle.hh_term.specs.Scopes.{locals_of}
+use Rattle.hh_term.specs.Fits.{SignalFits}
+use Rattle.hh_term.specs.IsProgram.{IsProgram, NamesDiffer, interface_of, locals_declared}
+use Rattle.loop_copy.specs.Copies.{copied_program, copied_locals, copied_sites, local_count, items_at}
 use Rattle.loop_copy.specs.Within.{LiesWithin}
 use Rattle.loop_copy.specs.IsCopied.{IsCopied}
 use Rattle.loop_copy.proofs.Lists.{all_both, all_map, all_zip, all_take, all_at, all_at_drop, all_items, all_any, all_range}
-use Rattle.loop_copy.proofs.Lists.{got_front, got_map, holds_behind, Holds}
+use Rattle.loop_copy.proofs.Lists.{got_front, holds_behind, Holds}
 use Rattle.loop_copy.proofs.Shapes.{locals_in_order, sites_in_order, exits_fit, same_height, same_traps, loops_wait, loops_are_doubled}
 use Rattle.loop_copy.proofs.Shapes.{copied_are, lies_within}
-use Rattle.loop_copy.proofs.Scoping.{Scoped, Here, Sound, sound, more_signals, more_sites, kinds_same}
+use Rattle.loop_copy.proofs.Scoping.{Scoped, Sound, sound, more_signals, more_sites, kinds_same}
 
 -- ---- names by positions
 

@@ -1,7 +1,7 @@
 -- In the copy of a statement kinds fit, signals are in scope, and what a node counts is the same.
-use Rattle.std.proofs.Common.{◌≡◌, ℕ, zero, suc, ◌+◌, ◌*◌, ◌<◌, ◌≤◌, Bool, true, false, cond, eqb, List, [], ◌∷◌, ◌++◌, length, map}
+use Rattle.std.proofs.Common.{◌≡◌, ℕ, suc, ◌+◌, ◌*◌, ◌≤◌, Bool, true, false, cond, eqb, List, [], ◌∷◌, ◌++◌, length, map}
 use Rattle.std.proofs.Common.{refl, sym, ap, subst, ◌∙◌, arith, length-append, eqb-true, eq-eqb, Option, Some, None}
-use Rattle.std.specs.Prelude.{◌||◌, ◌==◌, nat_lt, slice_get, IsTrue, option_map, option_to_list, flat_map, sum_by}
+use Rattle.std.specs.Prelude.{◌||◌, ◌==◌, nat_lt, slice_get, IsTrue, option_map, option_to_list, flat_map}
 use Rattle.std.specs.List.{AllByRecursion, list_any}
 use Rattle.std.proofs.lemmas.List.{map-append}
 use Rattle.hh_base.specs.declared.value.Kind.{Kind}
@@ -10,13 +10,12 @@ use Rattle.hh_base.specs.declared.value.Value.TheVariants as value
 use Rattle.hh_term.specs.declared.program.SignalDecl.{SignalDecl}
 use Rattle.host_expr.specs.declared.expr.TheConstants.{EXPRESSION_LIMIT}
 use Rattle.host_expr.specs.Expression.{Expression}
-use Rattle.host_expr.specs.Kinds.{kind_of_expression}
-use Rattle.host_expr.specs.Measures.{leaves_and_operators, signals_read, size_of_expression}
+use Rattle.host_expr.specs.Measures.{signals_read}
 use Rattle.hh_term.specs.Statement.{Statement, Nothing, Pause, Emit, If, Suspend, Seq, Par, Loop, Trap}
 use Rattle.hh_term.specs.Statement.{Exit, Local, Async}
-use Rattle.hh_term.specs.Kernel.{Kernel, AsyncSite, Body, first_at, target_at, arguments_at}
+use Rattle.hh_term.specs.Kernel.{Kernel, AsyncSite, Body}
 use Rattle.hh_term.specs.Sizes.{size_of, copied_size_of, size_of_optional, size_of_site, value_blocks, handler_blocks}
-use Rattle.hh_term.specs.Scopes.{IsInScope, UsesInScope, optional_signals, signal_list, site_signals}
+use Rattle.hh_term.specs.Scopes.{IsInScope, UsesInScope, optional_signals, signal_list}
 use Rattle.hh_term.specs.Fits.{StatementFits, HasKind, kinds_of, EmissionFits, SiteFits, SiteFitsBody, ArgumentsFit, ResultFits}
 use Rattle.loop_copy.specs.Renaming.{renamed, renamed_site}
 use Rattle.loop_copy.specs.Copies.{copy, copied_sites, copied_locals, copied_asyncs, local_count, async_count, items_at, with_number}
@@ -39,6 +38,7 @@ module _ (K : Kernel) where
       ap length (items_append K.signals (copied_locals p) (copied_locals q))
       ∙ length-append (items_at K.signals (copied_locals p)) (items_at K.signals (copied_locals q))
       ∙ (λ i. e i + f i) ∙ sym (length-append (copied_locals p) (copied_locals q))
+
   pub more_signals : (p : Statement) → LiesWithin (length K.signals) (length K.sites) p
       → length (items_at K.signals (copied_locals p)) ≡ local_count p
   more_signals Nothing w = refl
@@ -63,6 +63,7 @@ module _ (K : Kernel) where
   two_sites f n p q e g =
       length-append (copied_sites K.sites f n p) (copied_sites K.sites f (n + local_count p) q)
       ∙ (λ i. e i + g i) ∙ sym (length-append (copied_asyncs p) (copied_asyncs q))
+
   pub more_sites : (f : ℕ → ℕ) (n : ℕ) (p : Statement) → LiesWithin (length K.signals) (length K.sites) p
       → length (copied_sites K.sites f n p) ≡ async_count p
   more_sites f n Nothing w = refl
@@ -220,12 +221,12 @@ module _ (K C : Kernel) (same_interface : C.interface ≡ K.interface) (same_bod
       → First f n m p × First f (n + local_count p) (m + async_count p) q
   parts f n m p q x y w =
       let a = holds_both C.signals n (items_at K.signals (copied_locals p)) (items_at K.signals (copied_locals q))
-          (subst (Holds C.signals n) (items_append K.signals (copied_locals p) (copied_locals q)) x) in
+      (subst (Holds C.signals n) (items_append K.signals (copied_locals p) (copied_locals q)) x) in
       let b = holds_both C.sites m (copied_sites K.sites f n p) (copied_sites K.sites f (n + local_count p) q) y in
       let rest : Holds C.signals (n + local_count p) (items_at K.signals (copied_locals q))
-          = subst (λ k. Holds C.signals (n + k) (items_at K.signals (copied_locals q))) (more_signals K p w) a.1 in
+      = subst (λ k. Holds C.signals (n + k) (items_at K.signals (copied_locals q))) (more_signals K p w) a.1 in
       let more : Holds C.sites (m + async_count p) (copied_sites K.sites f (n + local_count p) q)
-          = subst (λ k. Holds C.sites (m + k) (copied_sites K.sites f (n + local_count p) q)) (more_sites K f n p w) b.1 in
+      = subst (λ k. Holds C.sites (m + k) (copied_sites K.sites f (n + local_count p) q)) (more_sites K f n p w) b.1 in
       ((a.0, b.0), (rest, more))
 
   abbrev sites_both : (f : ℕ → ℕ) (n : ℕ) (p q : Statement) → AllByRecursion (SiteFits C) (copied_sites K.sites f n p)
@@ -238,9 +239,9 @@ module _ (K C : Kernel) (same_interface : C.interface ≡ K.interface) (same_bod
     sound_async f n m ls us a h =
         let t = got K.sites a h.within in
         let here : slice_get C.sites m ≡ Some (renamed_site f t.0)
-            = (subst (λ o. Holds C.sites m (map (renamed_site f) (option_to_list o))) t.1 h.sites).0 in
+        = (subst (λ o. Holds C.sites m (map (renamed_site f) (option_to_list o))) t.1 h.sites).0 in
         let uses : AllByRecursion (IsInScope K ls) (signals_of (Some t.0))
-            = subst (λ o. AllByRecursion (IsInScope K ls) (signals_of o)) t.1 h.uses in
+        = subst (λ o. AllByRecursion (IsInScope K ls) (signals_of o)) t.1 h.uses in
         record {
           fits = tt;
           uses = subst (λ o. AllByRecursion (IsInScope C us) (signals_of o)) (sym here)
@@ -309,7 +310,7 @@ module _ (K C : Kernel) (same_interface : C.interface ≡ K.interface) (same_bod
     sound f n m ls us (Local s p) h =
         let d = got K.signals s h.within.0 in
         let these : Holds C.signals n (d.0 ∷ items_at K.signals (copied_locals p))
-            = subst (λ o. Holds C.signals n (option_to_list o ++ items_at K.signals (copied_locals p))) d.1 h.signals in
+        = subst (λ o. Holds C.signals n (option_to_list o ++ items_at K.signals (copied_locals p))) d.1 h.signals in
         let same : slice_get C.signals n ≡ slice_get K.signals s = these.0 ∙ sym d.1 in
         let x = sound (with_number s n f) (suc n) m (s ∷ ls) (n ∷ us) p (record {
           scoped = scoped_local f ls us s n h.scoped same;

@@ -1,12 +1,12 @@
 -- What the copy of a statement keeps whatever the declarations: its locals and sites in order, its codes, exits, height and traps.
-use Rattle.std.proofs.Common.{◌≡◌, ℕ, zero, suc, ◌+◌, ◌<◌, ◌≤◌, max, Bool, true, false, List, [], ◌∷◌, ◌++◌, length, map}
-use Rattle.std.proofs.Common.{refl, sym, ap, subst, ◌∙◌, arith, length-append}
+use Rattle.std.proofs.Common.{◌≡◌, ℕ, zero, suc, ◌+◌, ◌<◌, max, Bool, true, false, List, ◌∷◌, ◌++◌, length}
+use Rattle.std.proofs.Common.{refl, sym, ap, ◌∙◌, arith, length-append}
 use Rattle.std.specs.Prelude.{◌||◌, ◌&&◌}
 use Rattle.std.specs.List.{AllByRecursion, range_with_len}
 use mathlib.Core.Path.{fun_ext}
 use Rattle.hh_term.specs.Statement.{Statement, Nothing, Pause, Emit, If, Suspend, Seq, Par, Loop, Trap}
 use Rattle.hh_term.specs.Statement.{Exit, Local, Async}
-use Rattle.hh_term.specs.Codes.{CodeSet, only, either, without_end, in_turn, greater_of, lowered, static_codes}
+use Rattle.hh_term.specs.Codes.{CodeSet, either, without_end, in_turn, greater_of, lowered, static_codes}
 use Rattle.hh_term.specs.Scopes.{ExitsFit, LoopsWait, locals_of, sites_of}
 use Rattle.hh_term.specs.Sizes.{height_of, traps_round}
 use Rattle.loop_copy.specs.Copies.{copy, copied_locals, copied_asyncs, local_count, async_count, with_number}

@@ -1,8 +1,7 @@
 -- A program in which each loop's body stands twice, the second time with locals and async sites of its own. (After Berry's cure for
 -- reincarnation by doubling; the numbers are this project's own.)
-use Rattle.std.specs.Prelude.{ℕ, suc, ◌+◌, cond, ◌==◌, Option, Some, None, List, [], ◌∷◌, ◌++◌, length, map, flat_map}
+use Rattle.std.specs.Prelude.{ℕ, suc, ◌+◌, cond, ◌==◌, List, [], ◌∷◌, ◌++◌, length, map, flat_map}
 use Rattle.std.specs.Prelude.{option_map, option_to_list, slice_get, slice_index_or}
-use Rattle.hh_term.specs.declared.program.SignalDecl.{SignalDecl}
 use Rattle.hh_term.specs.Statement.{Statement, Nothing, Pause, Emit, If, Suspend, Seq, Par, Loop, Trap}
 use Rattle.hh_term.specs.Statement.{Exit, Local, Async}
 use Rattle.hh_term.specs.Kernel.{Kernel, AsyncSite}

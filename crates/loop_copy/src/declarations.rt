@@ -47,10 +47,7 @@ fn copy_kinds(alloc: Global, kinds: &[Kind]) -> Result<Kinds, NoMemory>
     Ok(Items::from_vec(copies))
 }
 
-fn copy_written(
-    alloc: Global,
-    expr: &Option<Expr<u32>>,
-) -> Result<Option<Expr<u32>>, NoMemory>
+fn copy_written(alloc: Global, expr: &Option<Expr<u32>>) -> Result<Option<Expr<u32>>, NoMemory>
     ensures { IfOk result (λ e. e ≡ expr.now) }
 {
     match expr {

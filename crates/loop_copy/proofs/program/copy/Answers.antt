@@ -1,11 +1,9 @@
-use Rattle.std.proofs.Common.{◌≡◌, ◌∙◌, sym, ap, subst, List, length, map, take}
+use Rattle.std.proofs.Common.{◌∙◌, sym, ap, subst, List, length, map, take}
 use Rattle.std.specs.List.{range_with_len}
 use Rattle.std.proofs.lemmas.List.FromFn.{length-range_with_len}
 use Rattle.hh_term.specs.declared.program.SignalDecl.{SignalDecl}
 use Rattle.hh_term.specs.ProgramView.{kernel_of}
-use Rattle.hh_term.specs.Views.{body_of, site_of, statement_of, kernel_from}
-use Rattle.loop_copy.specs.Copies.{copied_program}
-use Rattle.loop_copy.specs.CopiedView.{copied_of}
+use Rattle.hh_term.specs.Views.{body_of, statement_of}
 use Rattle.loop_copy.specs.IsCopied.{IsCopied}
 use Rattle.loop_copy.specs.declared.copier.Copier.{Copier}
 use Rattle.loop_copy.specs.Within.{LiesWithin}

@@ -8,7 +8,7 @@ pub returns : goal.returns
 returns c =
     let f = numbers_in c.args.numbers.now in
     let args = ap (map expression_of) (c.from_vec.ensures ∙ c.in_ok-args.ensures ∙ ap (map (renamed_expr f)) c.as_slice.ensures)
-        ∙ all_renamed f c.args.site.now.args in
+    ∙ all_renamed f c.args.site.now.args in
     λ i. record {
       body = c.args.site.now.body;
       signal = c.target.ensures i;

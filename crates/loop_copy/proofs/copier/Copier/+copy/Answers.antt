@@ -1,4 +1,4 @@
-use Rattle.std.proofs.Common.{◌≡◌, ◌<◌, refl, ap, ◌∙◌, length, arith}
+use Rattle.std.proofs.Common.{◌<◌, refl, ap, ◌∙◌, length, arith}
 use Rattle.std.specs.Vec.{with_item}
 use Rattle.hh_term.specs.ProgramView.{kernel_of}
 use Rattle.hh_term.specs.Views.{statement_of}

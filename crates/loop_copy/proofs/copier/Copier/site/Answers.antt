@@ -1,4 +1,4 @@
-use Rattle.std.proofs.Common.{◌≡◌, refl, sym, ap, ◌∙◌, map, length, arith}
+use Rattle.std.proofs.Common.{◌≡◌, refl, ap, ◌∙◌, map, length, arith}
 use Rattle.std.proofs.lemmas.List.{map_push, length-map}
 use Rattle.hh_term.specs.Views.{site_of}
 use Rattle.hh_term.specs.ProgramView.{kernel_of}
