@@ -5,4 +5,5 @@ pub mod Copying
 pub mod Scoping
 pub mod Rules
 pub mod Whole
+pub mod Standing
 pub mod Rows
