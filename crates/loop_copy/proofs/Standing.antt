@@ -82,27 +82,42 @@ stands_for f n k (Local s p) (Scope c b v) h =
     let x = stands_for (with_number s n f) (suc n) k p c h in (Scope x.0 b v, (x.1, refl, refl))
 stands_for f n k _ c h = absurd h
 
-pub only_one : (p : Statement) (m l c : Selection) → Stands p m c → Stands p l c → m ≡ l
-only_one Pause AtPause AtPause AtPause h k = refl
-only_one (Async n) (AtAsync i as' q s) (AtAsync i' as'' q' s') (AtAsync j bs r t) h k =
-    λ x. AtAsync ((h.0 ∙ sym k.0) x) ((h.1 ∙ sym k.1) x) ((h.2 ∙ sym k.2) x) ((h.3 ∙ sym k.3) x)
-only_one (If e p q) (First m) (First l) (First c) h k = ap First (only_one p m l c h k)
-only_one (If e p q) (Second m) (Second l) (Second c) h k = ap Second (only_one q m l c h k)
-only_one (Suspend e p) (Inside m) (Inside l) (Inside c) h k = ap Inside (only_one p m l c h k)
-only_one (Seq p q) (First m) (First l) (First c) h k = ap First (only_one p m l c h k)
-only_one (Seq p q) (Second m) (Second l) (Second c) h k = ap Second (only_one q m l c h k)
-only_one (Par p q) (First m) (First l) (First c) h k = ap First (only_one p m l c h k)
-only_one (Par p q) (Second m) (Second l) (Second c) h k = ap Second (only_one q m l c h k)
-only_one (Par p q) (Both m n) (Both l o) (Both c d) h k =
-    λ i. Both (only_one p m l c h.0 k.0 i) (only_one q n o d h.1 k.1 i)
-only_one (Loop p) (Inside m) (Inside l) (Inside (First c)) h k = ap Inside (only_one p m l c h k)
-only_one (Loop p) (Inside m) (Inside l) (Inside (Second c)) h k = ap Inside (only_one p m l c h k)
-only_one (Trap p) (Inside m) (Inside l) (Inside c) h k = ap Inside (only_one p m l c h k)
-only_one (Local s p) (Scope m b v) (Scope l b' v') (Scope c d w) h k =
-    λ i. Scope (only_one p m l c h.0 k.0 i) ((h.1 ∙ sym k.1) i) ((h.2 ∙ sym k.2) i)
-only_one _ m l c h k = absurd h
+-- the mark without the choice of halves
+original_mark : Statement → Selection → Selection
+original_mark (Async n) c = c
+original_mark (If e p q) (First c) = First (original_mark p c)
+original_mark (If e p q) (Second c) = Second (original_mark q c)
+original_mark (Suspend e p) (Inside c) = Inside (original_mark p c)
+original_mark (Seq p q) (First c) = First (original_mark p c)
+original_mark (Seq p q) (Second c) = Second (original_mark q c)
+original_mark (Par p q) (First c) = First (original_mark p c)
+original_mark (Par p q) (Second c) = Second (original_mark q c)
+original_mark (Par p q) (Both c d) = Both (original_mark p c) (original_mark q d)
+original_mark (Loop p) (Inside (First c)) = Inside (original_mark p c)
+original_mark (Loop p) (Inside (Second c)) = Inside (original_mark p c)
+original_mark (Trap p) (Inside c) = Inside (original_mark p c)
+original_mark (Local s p) (Scope c b v) = Scope (original_mark p c) b v
+original_mark _ c = c
+
+is_original : (p : Statement) (m c : Selection) → Stands p m c → m ≡ original_mark p c
+unfolding original_mark
+is_original Pause AtPause AtPause h = refl
+is_original (Async n) (AtAsync i as' q s) (AtAsync j bs r t) h = λ x. AtAsync (h.0 x) (h.1 x) (h.2 x) (h.3 x)
+is_original (If e p q) (First m) (First c) h = ap First (is_original p m c h)
+is_original (If e p q) (Second m) (Second c) h = ap Second (is_original q m c h)
+is_original (Suspend e p) (Inside m) (Inside c) h = ap Inside (is_original p m c h)
+is_original (Seq p q) (First m) (First c) h = ap First (is_original p m c h)
+is_original (Seq p q) (Second m) (Second c) h = ap Second (is_original q m c h)
+is_original (Par p q) (First m) (First c) h = ap First (is_original p m c h)
+is_original (Par p q) (Second m) (Second c) h = ap Second (is_original q m c h)
+is_original (Par p q) (Both m n) (Both c d) h = λ i. Both (is_original p m c h.0 i) (is_original q n d h.1 i)
+is_original (Loop p) (Inside m) (Inside (First c)) h = ap Inside (is_original p m c h)
+is_original (Loop p) (Inside m) (Inside (Second c)) h = ap Inside (is_original p m c h)
+is_original (Trap p) (Inside m) (Inside c) h = ap Inside (is_original p m c h)
+is_original (Local s p) (Scope m b v) (Scope c b' v') h = λ i. Scope (is_original p m c h.0 i) (h.1 i) (h.2 i)
+is_original _ m c h = absurd h
 
 pub stands_for_one : (f : ℕ → ℕ) (n k : ℕ) (p : Statement) (c : Selection) → IsMarkOf (copy f n k p) c → StandsForOne p c
 stands_for_one f n k p c h =
     let x = stands_for f n k p c h in
-    record { mark = x.0; stands = x.1; only = λ m s. only_one p m x.0 c s x.1 }
+    record { mark = x.0; stands = x.1; only = λ m s. is_original p m c s ∙ sym (is_original p x.0 c x.1) }
