@@ -43,7 +43,7 @@ all_pairs (d ∷ ds) h = (
   all_pairs ds (all_map (λ e. AllByRecursion (Named e) (d ∷ ds)) (λ e. AllByRecursion (Named e) ds) (λ e q. q.1) ds h.1),
 )
 
-either_first : (a : Bool) → IsTrue (a || false) → a ≡ true
+pub either_first : (a : Bool) → IsTrue (a || false) → a ≡ true
 either_first true h = refl
 either_first false h = h
 

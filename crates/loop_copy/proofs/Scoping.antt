@@ -212,10 +212,10 @@ module _ (K C : Kernel) (same_interface : C.interface ≡ K.interface) (same_bod
     pub sites : AllByRecursion (SiteFits C) (copied_sites K.sites f n p)
 
   -- the two parts of a statement
-  abbrev First : (ℕ → ℕ) → ℕ → ℕ → Statement → Type 0
+  abbrev pub First : (ℕ → ℕ) → ℕ → ℕ → Statement → Type 0
   First f n m p = Holds C.signals n (items_at K.signals (copied_locals p)) × Holds C.sites m (copied_sites K.sites f n p)
 
-  parts : (f : ℕ → ℕ) (n m : ℕ) (p q : Statement) → Holds C.signals n (items_at K.signals (copied_locals p ++ copied_locals q))
+  pub parts : (f : ℕ → ℕ) (n m : ℕ) (p q : Statement) → Holds C.signals n (items_at K.signals (copied_locals p ++ copied_locals q))
       → Holds C.sites m (copied_sites K.sites f n p ++ copied_sites K.sites f (n + local_count p) q)
       → LiesWithin (length K.signals) (length K.sites) p
       → First f n m p × First f (n + local_count p) (m + async_count p) q
