@@ -1,7 +1,7 @@
 -- The marks of the copied term are those that stand for a mark of the term.
-use Rattle.std.proofs.Common.{◌≡◌, ℕ, suc, ◌+◌, ◌++◌, refl, sym, ap, subst, ◌∙◌}
-use Rattle.hh_term.specs.Statement.{Statement, Nothing, Pause, Emit, If, Suspend, Seq, Par, Loop, Trap}
-use Rattle.hh_term.specs.Statement.{Exit, Local, Async}
+use Rattle.std.proofs.Common.{◌≡◌, ℕ, suc, ◌+◌, ◌++◌, refl, sym, ap, ◌∙◌}
+use Rattle.hh_term.specs.Statement.{Statement, Pause, If, Suspend, Seq, Par, Loop, Trap}
+use Rattle.hh_term.specs.Statement.{Local, Async}
 use Rattle.hh_term.specs.Selection.{Selection, AtPause, AtAsync, First, Second, Both, Inside, Scope}
 use Rattle.hh_term.specs.Marks.{IsMarkOf, ids_in}
 use Rattle.loop_copy.specs.Copies.{copy, local_count, async_count, with_number}
