@@ -1,9 +1,8 @@
 -- Each combinator of Must and Can does the same of what does the same.
-use Rattle.std.proofs.Common.{◌≡◌, ℕ, zero, suc, ◌+◌, ◌<◌, Bool, true, false, cond, eqb, Option, Some, None, List, [], ◌∷◌, ◌++◌, length}
+use Rattle.std.proofs.Common.{◌≡◌, ℕ, ◌<◌, Bool, true, false, cond, eqb, List, [], ◌∷◌, ◌++◌}
 use Rattle.std.proofs.Common.{refl, sym, ap, subst, ◌∙◌, arith, eqb-true, eq-eqb}
 use Rattle.std.specs.Prelude.{◌==◌, ◌||◌, nat_lt, IsTrue}
 use Rattle.std.specs.List.{list_any}
-use Rattle.hh_base.specs.declared.value.Value.{Value}
 use Rattle.host_expr.specs.declared.cell.Cell.{Cell}
 use Rattle.host_expr.specs.declared.cell.Cell.TheVariants as cell
 use Rattle.host_expr.specs.declared.cell.SigCell.{SigCell}
@@ -11,7 +10,7 @@ use Rattle.host_expr.specs.Environment.{Env, put}
 use Rattle.host_expr.specs.Evaluation.{truth}
 use Rattle.hh_term.specs.Kernel.{Kernel}
 use Rattle.hh_term.specs.Scopes.{IsInScope}
-use Rattle.hh_term.specs.Codes.{CodeSet, only, either, in_turn, greater_of, lowered}
+use Rattle.hh_term.specs.Codes.{CodeSet, either, in_turn, greater_of, lowered}
 use Rattle.hh_term.specs.MustCan.{Table, Bag, Index, Executed, Possible, MustCan, gives, one_of, is_end, go_on, sequence, greater}
 use Rattle.hh_term.specs.MustCan.{parallel, lower_code, trapped, chosen, held, cells_of, without, hide, status_by, value_by}
 use Rattle.hh_term.specs.MustCan.{raised, round, solve, scoped}

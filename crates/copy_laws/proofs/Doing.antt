@@ -12,33 +12,31 @@ use Rattle.hh_base.specs.declared.value.Kind.TheVariants as kind
 use Rattle.hh_base.specs.declared.value.CombineWord.{CombineWord}
 use Rattle.hh_base.specs.declared.item.Item.{Item}
 use Rattle.hh_term.specs.declared.program.SignalDecl.{SignalDecl}
-use Rattle.host_expr.specs.declared.cell.Cell.{Cell}
 use Rattle.host_expr.specs.declared.cell.Cell.TheVariants as cell
-use Rattle.host_expr.specs.declared.cell.SigCell.{SigCell}
-use Rattle.host_expr.specs.Environment.{Env, unsolved, put}
+use Rattle.host_expr.specs.Environment.{Env, unsolved}
 use Rattle.host_expr.specs.Evaluation.{eval_of}
 use Rattle.host_expr.specs.Expression.{Expression}
 use Rattle.host_expr.specs.Measures.{signals_read}
 use Rattle.hh_term.specs.Statement.{Statement, Nothing, Pause, Emit, If, Suspend, Seq, Par, Loop, Trap}
 use Rattle.hh_term.specs.Statement.{Exit, Local, Async}
-use Rattle.hh_term.specs.Selection.{Selection, AtPause, AtAsync, First, Second, Both, Inside, Scope, Task, Start, Resume}
+use Rattle.hh_term.specs.Selection.{Selection, AtPause, AtAsync, First, Second, Both, Inside, Scope, Start, Resume}
 use Rattle.hh_term.specs.Kernel.{Kernel, AsyncSite}
-use Rattle.hh_term.specs.Codes.{CodeSet, only, without_end, in_turn, static_codes}
+use Rattle.hh_term.specs.Codes.{CodeSet, in_turn, static_codes}
 use Rattle.hh_term.specs.Scopes.{IsInScope, UsesInScope, LoopsWait, optional_signals, signal_list}
-use Rattle.hh_term.specs.MustCan.{Table, table_of, Index, Executed, Possible, MustCan, must_can, gives, is_end, go_on, sequence}
-use Rattle.hh_term.specs.MustCan.{emitted, answered, answer_bag, answer_code, scoped}
+use Rattle.hh_term.specs.MustCan.{Table, table_of, Index, Possible, MustCan, must_can, gives, is_end, go_on, sequence}
+use Rattle.hh_term.specs.MustCan.{emitted, answered, answer_code, scoped}
 use Rattle.hh_term.specs.Knows.{MustWithinCan, NothingSure}
 use Rattle.hh_term.proofs.WithinCan.{end_known}
 use Rattle.hh_term.proofs.MustCanLaws.{must_can_lawful}
 use Rattle.hh_term.proofs.StaticCodes.{started_codes_are_static}
 use Rattle.loop_copy.specs.Renaming.{renamed, renamed_site}
-use Rattle.loop_copy.specs.Copies.{copy, copied_sites, copied_locals, copied_asyncs, local_count, async_count, items_at, with_number}
+use Rattle.loop_copy.specs.Copies.{copy, copied_sites, copied_locals, local_count, async_count, items_at, with_number}
 use Rattle.loop_copy.specs.Within.{LiesWithin}
 use Rattle.loop_copy.specs.Stands.{Stands}
 use Rattle.loop_copy.proofs.Lists.{both_all, all_map, got, Holds}
 use Rattle.loop_copy.proofs.Shapes.{half_waits, loops_wait}
 use Rattle.loop_copy.proofs.Scoping.{parts}
-use Rattle.copy_laws.specs.Agreeing.{SeesTheSame, EmitsTheSame, DoesTheSame}
+use Rattle.copy_laws.specs.Agreeing.{SeesTheSame, DoesTheSame}
 use Rattle.copy_laws.proofs.Evaluating.{same_value}
 use Rattle.copy_laws.proofs.Alike.{does_gives, does_chosen, does_held, does_sequence, does_parallel, does_trapped, does_scoped, outside}
 

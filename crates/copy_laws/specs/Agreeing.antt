@@ -1,5 +1,5 @@
 -- When a statement and its copy must and can do the same, up to the numbers of signals. (This project's own.)
-use Rattle.std.specs.Prelude.{◌≡◌, ℕ, List, [], ◌∷◌, map}
+use Rattle.std.specs.Prelude.{◌≡◌, ℕ, List, [], ◌∷◌}
 use Rattle.host_expr.specs.Environment.{Env}
 use Rattle.hh_term.specs.Kernel.{Kernel}
 use Rattle.hh_term.specs.Scopes.{IsInScope}
