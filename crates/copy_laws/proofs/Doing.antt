@@ -173,7 +173,7 @@ module _ (K C : Kernel) (same_interface : C.interface ≡ K.interface) (same_bod
   target_of f n m ls a h =
       let t = got K.sites a h.within in
       let here : slice_get C.sites m ≡ Some (renamed_site f t.0)
-          = (subst (λ o. Holds C.sites m (map (renamed_site f) (option_to_list o))) t.1 h.sites).0 in (
+      = (subst (λ o. Holds C.sites m (map (renamed_site f) (option_to_list o))) t.1 h.sites).0 in (
         ap (λ (o : Option AsyncSite). elim o [ Some b ↦ b.signal | None ↦ None ]) here
             ∙ ap (λ (o : Option AsyncSite). option_map f (elim o [ Some b ↦ b.signal | None ↦ None ])) (sym t.1),
         (both_all (IsInScope K ls) (signal_list (T.target a)) (flat_map signals_read (T.args a)) h.uses).0,
@@ -188,7 +188,7 @@ module _ (K C : Kernel) (same_interface : C.interface ≡ K.interface) (same_bod
   inner f n m ls s p h =
       let d = got K.signals s h.within.0 in
       let these : Holds C.signals n (d.0 ∷ items_at K.signals (copied_locals p))
-          = subst (λ o. Holds C.signals n (option_to_list o ++ items_at K.signals (copied_locals p))) d.1 h.signals in
+      = subst (λ o. Holds C.signals n (option_to_list o ++ items_at K.signals (copied_locals p))) d.1 h.signals in
       record {
         body = record { low = low; signals = these.1; sites = h.sites; within = h.within.1; uses = h.uses; waits = h.waits };
         declared = these.0 ∙ sym d.1;
