@@ -1,0 +1,4 @@
+pub mod Evaluating
+pub mod Alike
+pub mod Doing
+pub mod Whole

@@ -1,0 +1,9 @@
+pub mod Lists
+pub mod Renamed
+pub mod Shapes
+pub mod Copying
+pub mod Scoping
+pub mod Rules
+pub mod Whole
+pub mod Standing
+pub mod Rows
