@@ -1,5 +1,5 @@
 -- Kinds fit in each line of nets, and names do. (This project's own.)
-use Rattle.std.specs.Prelude.{◌≡◌, ℕ, ◌≢◌, ◌⊎◌, true, Option, Some, None, IsSome, List, [], ◌∷◌, slice_get}
+use Rattle.std.specs.Prelude.{◌≡◌, ℕ, ◌≢◌, true, Option, Some, None, IsSome, List, [], ◌∷◌, slice_get}
 use Rattle.std.specs.List.{AllByRecursion}
 use Rattle.hh_base.specs.declared.value.Kind.{Kind}
 use Rattle.hh_base.specs.declared.value.Kind.TheVariants as kind

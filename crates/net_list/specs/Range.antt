@@ -1,13 +1,12 @@
 -- Each place that a line of nets names is there. (This project's own.)
-use Rattle.std.specs.Prelude.{◌≡◌, ℕ, ◌<◌, Bool, true, false, Option, Some, None, List, [], length}
-use Rattle.std.specs.Prelude.{slice_get}
-use Rattle.std.specs.List.{AllByRecursion}
-use Rattle.hh_base.specs.declared.value.Kind.{Kind}
+use Rattle.std.specs.Prelude.{◌≡◌, ℕ, ◌&&◌, Bool, true, false, Option, Some, None, List, length}
+use Rattle.std.specs.Prelude.{slice_get, nat_lt}
+use Rattle.std.specs.List.{list_all}
 use Rattle.hh_base.specs.declared.value.Dir.{Dir}
 use Rattle.hh_base.specs.declared.value.Dir.TheVariants as dir
 use Rattle.host_expr.specs.declared.expr.Expr.{Expr}
-use Rattle.host_expr.specs.Expression.{expression_of}
-use Rattle.host_expr.specs.Measures.{signals_read}
+use Rattle.host_expr.specs.Expression.{Expression, Now, Pre, NowVal, PreVal, Arg, Not, Neg, Arith, Compare}
+use Rattle.host_expr.specs.Expression.{And, Or, Choose, expression_of}
 use Rattle.hh_term.specs.declared.program.BodyDecl.{BodyDecl}
 use Rattle.net_list.specs.declared.gate.NetGate.{NetGate}
 use Rattle.net_list.specs.declared.gate.NetGate.TheVariants as gate
@@ -18,16 +17,44 @@ use Rattle.net_list.specs.declared.record.NetTest.{NetTest}
 use Rattle.net_list.specs.declared.record.NetEmit.{NetEmit}
 use Rattle.net_list.specs.declared.record.NetExec.{NetExec}
 use Rattle.net_list.specs.declared.record.NetRecords.{NetRecords}
-use Rattle.net_list.specs.Expressions.{parameters_read}
 
-abbrev pub IsGate : NetRecords → ℕ → Type 0
-IsGate N g = g < length N.gates
+-- a place in a list
+abbrev pub is_in : {X : Type 0} → List X → ℕ → Bool
+is_in xs n = nat_lt n (length xs)
 
-abbrev pub IsSignal : NetRecords → ℕ → Type 0
-IsSignal N s = s < length N.signals
+-- each signal that it reads is one of the first `signals`, and each parameter one of the first `params`
+abbrev pub reads_within : ℕ → ℕ → Expression → Bool
+reads_within signals params (Now s) = nat_lt s signals
+reads_within signals params (Pre s) = nat_lt s signals
+reads_within signals params (NowVal s) = nat_lt s signals
+reads_within signals params (PreVal s) = nat_lt s signals
+reads_within signals params (Arg n) = nat_lt n params
+reads_within signals params (Not a) = reads_within signals params a
+reads_within signals params (Neg p a) = reads_within signals params a
+reads_within signals params (Arith p op a b) = reads_within signals params a && reads_within signals params b
+reads_within signals params (Compare r a b) = reads_within signals params a && reads_within signals params b
+reads_within signals params (And a b) = reads_within signals params a && reads_within signals params b
+reads_within signals params (Or a b) = reads_within signals params a && reads_within signals params b
+reads_within signals params (Choose a b c) =
+    reads_within signals params a && reads_within signals params b && reads_within signals params c
+reads_within signals params e = true
 
-abbrev pub IsExec : NetRecords → ℕ → Type 0
-IsExec N x = x < length N.execs
+-- the expression of a body reads its parameters and no signals, and any other one signals and no parameters
+abbrev pub body_reads_within : ℕ → Option (Expr ℕ) → Bool
+body_reads_within params (Some e) = reads_within 0 params (expression_of e)
+body_reads_within params None = true
+
+abbrev pub line_reads : NetRecords → Expr ℕ → Bool
+line_reads N e = reads_within (length N.signals) 0 (expression_of e)
+
+abbrev pub signal_in_range : NetRecords → NetSignal → Bool
+signal_in_range N s = is_in N.gates s.status && is_in N.gates s.pre && is_in N.gates s.sel
+
+abbrev pub body_in_range : BodyDecl → Bool
+body_in_range b = body_reads_within (length b.params) b.expr
+
+abbrev pub register_in_range : NetRecords → Bool × ℕ → Bool
+register_in_range N r = is_in N.gates r.1
 
 abbrev pub takes_input : Dir → Bool
 takes_input dir.Input = true
@@ -35,82 +62,52 @@ takes_input dir.Both = true
 takes_input _ = false
 
 -- an input is a signal that the environment gives
-abbrev pub IsInput : NetRecords → ℕ → Type 0
-IsInput N s = (elim (slice_get N.signals s) [ Some d ↦ takes_input d.decl.dir ≡ true | None ↦ ⊥ ])
+abbrev pub is_input : NetRecords → ℕ → Bool
+is_input N s = (elim (slice_get N.signals s) [ Some d ↦ takes_input d.decl.dir | None ↦ false ])
 
--- a body's expression reads its parameters and no signals
-pub record BodyReads (params : List Kind) (e : Expr ℕ) : Type 0 where
-  pub no_signals : signals_read (expression_of e) ≡ []
-  pub parameters : AllByRecursion (λ n. n < length params) (parameters_read (expression_of e))
+abbrev pub gate_in_range : NetRecords → NetGate → Bool
+gate_in_range N gate.Zero = true
+gate_in_range N gate.One = true
+gate_in_range N (gate.Not g) = is_in N.gates g
+gate_in_range N (gate.And gs) = list_all (is_in N.gates) gs
+gate_in_range N (gate.Or gs) = list_all (is_in N.gates) gs
+gate_in_range N (gate.Reg r) = is_in N.registers r
+gate_in_range N (gate.Test t) = is_in N.tests t
+gate_in_range N (gate.Input s) = is_input N s
+gate_in_range N (gate.Answer x) = is_in N.execs x
+gate_in_range N (gate.Part x) = is_in N.execs x
 
--- any other one reads signals and no parameters
-pub record LineReads (N : NetRecords) (e : Expr ℕ) : Type 0 where
-  pub signals : AllByRecursion (IsSignal N) (signals_read (expression_of e))
-  pub no_parameters : parameters_read (expression_of e) ≡ []
+abbrev pub test_in_range : NetRecords → NetTest → Bool
+test_in_range N t = is_in N.gates t.control && line_reads N t.expr
 
-pub record SignalInRange (N : NetRecords) (s : NetSignal) : Type 0 where
-  pub status : IsGate N s.status
-  pub pre : IsGate N s.pre
-  pub sel : IsGate N s.sel
+abbrev pub sent_in_range : NetRecords → Sent → Bool
+sent_in_range N sent.Nothing = true
+sent_in_range N (sent.Computed e) = line_reads N e
+sent_in_range N (sent.Answer x) = is_in N.execs x
 
-abbrev pub ExpressionInRange : List Kind → Option (Expr ℕ) → Type 0
-ExpressionInRange params (Some e) = BodyReads params e
-ExpressionInRange params None = Unit {0}
+abbrev pub emit_in_range : NetRecords → NetEmit → Bool
+emit_in_range N e = is_in N.gates e.control && is_in N.signals e.signal && sent_in_range N e.sent
 
-abbrev pub BodyInRange : BodyDecl → Type 0
-BodyInRange b = ExpressionInRange b.params b.expr
+abbrev pub target_in_range : NetRecords → Option ℕ → Bool
+target_in_range N (Some s) = is_in N.signals s
+target_in_range N None = true
 
-abbrev pub RegisterInRange : NetRecords → Bool × ℕ → Type 0
-RegisterInRange N r = IsGate N r.1
+abbrev pub exec_gates_in_range : NetRecords → NetExec → Bool
+exec_gates_in_range N e =
+    is_in N.gates e.go && is_in N.gates e.reg && is_in N.gates e.end && is_in N.gates e.used
+    && is_in N.gates e.held && is_in N.gates e.resumed && is_in N.gates e.next
 
-abbrev pub GateInRange : NetRecords → NetGate → Type 0
-GateInRange N gate.Zero = Unit {0}
-GateInRange N gate.One = Unit {0}
-GateInRange N (gate.Not g) = IsGate N g
-GateInRange N (gate.And gs) = AllByRecursion (IsGate N) gs
-GateInRange N (gate.Or gs) = AllByRecursion (IsGate N) gs
-GateInRange N (gate.Reg r) = r < length N.registers
-GateInRange N (gate.Test t) = t < length N.tests
-GateInRange N (gate.Input s) = IsInput N s
-GateInRange N (gate.Answer x) = IsExec N x
-GateInRange N (gate.Part x) = IsExec N x
-
-pub record TestInRange (N : NetRecords) (t : NetTest) : Type 0 where
-  pub control : IsGate N t.control
-  pub reads : LineReads N t.expr
-
-abbrev pub SentInRange : NetRecords → Sent → Type 0
-SentInRange N sent.Nothing = Unit {0}
-SentInRange N (sent.Computed e) = LineReads N e
-SentInRange N (sent.Answer x) = IsExec N x
-
-pub record EmitInRange (N : NetRecords) (e : NetEmit) : Type 0 where
-  pub control : IsGate N e.control
-  pub signal : IsSignal N e.signal
-  pub sent : SentInRange N e.sent
-
-abbrev pub TargetInRange : NetRecords → Option ℕ → Type 0
-TargetInRange N (Some s) = IsSignal N s
-TargetInRange N None = Unit {0}
-
-pub record ExecInRange (N : NetRecords) (e : NetExec) : Type 0 where
-  pub body : e.site.body < length N.bodies
-  pub signal : TargetInRange N e.site.signal
-  pub go : IsGate N e.go
-  pub reg : IsGate N e.reg
-  pub end : IsGate N e.end
-  pub used : IsGate N e.used
-  pub held : IsGate N e.held
-  pub resumed : IsGate N e.resumed
-  pub next : IsGate N e.next
-  pub args : AllByRecursion (LineReads N) e.site.args
+abbrev pub exec_in_range : NetRecords → NetExec → Bool
+exec_in_range N e =
+    is_in N.bodies e.site.body && target_in_range N e.site.signal && exec_gates_in_range N e
+    && list_all (line_reads N) e.site.args
 
 pub record AllInRange (N : NetRecords) : Type 0 where
-  pub signals : AllByRecursion (SignalInRange N) N.signals
-  pub bodies : AllByRecursion BodyInRange N.bodies
-  pub registers : AllByRecursion (RegisterInRange N) N.registers
-  pub gates : AllByRecursion (GateInRange N) N.gates
-  pub tests : AllByRecursion (TestInRange N) N.tests
-  pub emits : AllByRecursion (EmitInRange N) N.emits
-  pub execs : AllByRecursion (ExecInRange N) N.execs
-  pub done : IsGate N N.done
+  pub signals : list_all (signal_in_range N) N.signals ≡ true
+  pub bodies : list_all body_in_range N.bodies ≡ true
+  pub registers : list_all (register_in_range N) N.registers ≡ true
+  pub gates : list_all (gate_in_range N) N.gates ≡ true
+  pub tests : list_all (test_in_range N) N.tests ≡ true
+  pub emits : list_all (emit_in_range N) N.emits ≡ true
+  pub execs : list_all (exec_in_range N) N.execs ≡ true
+  pub done : is_in N.gates N.done ≡ true

@@ -6,7 +6,7 @@ use host_expr::expr::Expr;
 use sqlite_items::Items;
 
 /// A signal: its declaration, and the gates that are its status, its status in the reaction before, and
-/// whether it had a value then.
+/// whether its value is the last one (1) or the first one (0) where nothing emits it.
 #[derive(Drop)]
 pub struct NetSignal {
     pub decl: SignalDecl,

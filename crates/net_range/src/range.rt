@@ -1,0 +1,1 @@
+//! The first line with a place that is not there.
