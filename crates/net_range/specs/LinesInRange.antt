@@ -1,5 +1,7 @@
 -- The first line of a net text with a place that is not there. (This project's own.)
-use Rattle.std.specs.Prelude.{ℕ, ◌+◌, Bool, true, false, Option, Some, None, List, [], ◌∷◌, ◌++◌, map}
+use Rattle.std.specs.Prelude.{◌≡◌, ℕ, ◌+◌, Bool, true, false, List, [], ◌∷◌, ◌++◌, length, map}
+use Rattle.std.specs.Prelude.{Result, Ok, Err}
+use Rattle.std.specs.List.{list_all}
 use Rattle.net_list.specs.declared.record.NetRecords.{NetRecords}
 use Rattle.net_list.specs.Range.{is_in, signal_in_range, body_in_range, register_in_range, gate_in_range}
 use Rattle.net_list.specs.Range.{test_in_range, emit_in_range, exec_in_range}
@@ -15,14 +17,25 @@ lines_in_range N =
     (true ∷ []) ++ section (signal_in_range N) N.signals ++ section body_in_range N.bodies
     ++ section (register_in_range N) N.registers ++ section (gate_in_range N) N.gates
     ++ section (test_in_range N) N.tests ++ section (emit_in_range N) N.emits
-    ++ section (exec_in_range N) N.execs ++ (is_in N.gates N.done ∷ []) ++ (true ∷ [])
+    ++ section (exec_in_range N) N.execs ++ (is_in N.gates N.done ∷ true ∷ [])
 
--- of lines that are numbered from n on, the number of the first that is not in range
-abbrev pub first_from : ℕ → List Bool → Option ℕ
-first_from n [] = None
-first_from n (true ∷ lines) = first_from (n + 1) lines
-first_from n (false ∷ lines) = Some n
+abbrev pub all_true : List Bool → Bool
+all_true lines = list_all (λ b. b) lines
 
--- lines are counted from 1
-abbrev pub first_out_of_range : NetRecords → Option ℕ
-first_out_of_range N = first_from 1 (lines_in_range N)
+-- line n, counted from 1, is the first that is not in range
+pub record IsFirstOutOfRange (lines : List Bool) (n : ℕ) : Type 0 where
+  pub before : List Bool
+  pub behind : List Bool
+  pub lines_are : lines ≡ before ++ false ∷ behind
+  pub in_range : all_true before ≡ true
+  pub counted : n ≡ length before + 1
+
+-- a bridge: the number of the line behind lines that are numbered from n on, or of the first out of range
+abbrev pub past : ℕ → List Bool → Result ℕ ℕ
+past n [] = Ok n
+past n (true ∷ lines) = past (n + 1) lines
+past n (false ∷ lines) = Err n
+
+abbrev pub past_more : Result ℕ ℕ → List Bool → Result ℕ ℕ
+past_more (Ok n) lines = past n lines
+past_more (Err n) lines = Err n
