@@ -2,9 +2,9 @@
 use Rattle.net_list.specs.declared.record.NetRecords.{NetRecords}
 use Rattle.net_list.specs.Form.{HasForm}
 use Rattle.net_list.specs.Range.{AllInRange}
-use Rattle.net_list.specs.Kinds.{AllFit}
+use Rattle.net_list.specs.Kinds.{KindsFit}
 
 pub record IsNets (N : NetRecords) : Type 0 where
   pub form : HasForm N
   pub range : AllInRange N
-  pub kinds : AllFit N
+  pub kinds : KindsFit N

@@ -6,14 +6,15 @@ use Rattle.host_expr.proofs.Truths.{and_both, and_first, and_second}
 use Rattle.net_list.specs.declared.record.NetRecords.{NetRecords}
 use Rattle.net_list.specs.Range.{AllInRange, is_in, signal_in_range, body_in_range, register_in_range}
 use Rattle.net_list.specs.Range.{gate_in_range, test_in_range, emit_in_range, exec_in_range}
-use Rattle.net_range.specs.LinesInRange.{section, lines_in_range, all_true, IsFirstOutOfRange, past}
+use Rattle.net_range.specs.RuledLines.{section, all_true, IsFirstRefused, past}
+use Rattle.net_range.specs.LinesInRange.{lines_in_range}
 
 -- the same of lines that are numbered from n on
 record IsFirstFrom (n : ℕ) (lines : List Bool) (k : ℕ) : Type 0 where
   before : List Bool
   behind : List Bool
   lines_are : lines ≡ before ++ false ∷ behind
-  in_range : all_true before ≡ true
+  kept : all_true before ≡ true
   counted : k ≡ length before + n
 
 first_from : (n k : ℕ) (lines : List Bool) → past n lines ≡ Err k → IsFirstFrom n lines k
@@ -24,21 +25,21 @@ first_from n k (true ∷ lines) h =
       before = true ∷ rest.before;
       behind = rest.behind;
       lines_are = ap (λ l. true ∷ l) rest.lines_are;
-      in_range = rest.in_range;
+      kept = rest.kept;
       counted = omega (arith, rest.counted);
     }
 first_from n k (false ∷ lines) h =
     let number : k ≡ n = cc in
-    record { before = []; behind = lines; lines_are = refl; in_range = refl; counted = omega (arith, number) }
+    record { before = []; behind = lines; lines_are = refl; kept = refl; counted = omega (arith, number) }
 
-pub is_first : (k : ℕ) (lines : List Bool) → past 1 lines ≡ Err k → IsFirstOutOfRange lines k
+pub is_first : (k : ℕ) (lines : List Bool) → past 1 lines ≡ Err k → IsFirstRefused lines k
 is_first k lines h =
     let first = first_from 1 k lines h in
     record {
       before = first.before;
       behind = first.behind;
       lines_are = first.lines_are;
-      in_range = first.in_range;
+      kept = first.kept;
       counted = first.counted;
     }
 
@@ -47,17 +48,17 @@ all_held n m [] h = refl
 all_held n m (true ∷ lines) h = all_held (n + 1) m lines h
 all_held n m (false ∷ lines) h = cc
 
-front : (xs ys : List Bool) → all_true (xs ++ ys) ≡ true → all_true xs ≡ true
+pub front : (xs ys : List Bool) → all_true (xs ++ ys) ≡ true → all_true xs ≡ true
 front [] ys h = refl
 front (true ∷ xs) ys h = front xs ys h
 front (false ∷ xs) ys h = cc
 
-back : (xs ys : List Bool) → all_true (xs ++ ys) ≡ true → all_true ys ≡ true
+pub back : (xs ys : List Bool) → all_true (xs ++ ys) ≡ true → all_true ys ≡ true
 back [] ys h = h
 back (true ∷ xs) ys h = back xs ys h
 back (false ∷ xs) ys h = cc
 
-each : {X : Type 0} (f : X → Bool) (xs : List X) → all_true (map f xs) ≡ true → list_all f xs ≡ true
+pub each : {X : Type 0} (f : X → Bool) (xs : List X) → all_true (map f xs) ≡ true → list_all f xs ≡ true
 each f [] h = refl
 each f (x ∷ xs) h = and_both (f x) (list_all f xs) (and_first (f x) _ h) (each f xs (and_second (f x) _ h))
 

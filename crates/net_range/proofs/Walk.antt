@@ -2,7 +2,7 @@
 use Rattle.std.proofs.Common.{◌≡◌, ◌<◌, ◌+◌, ◌++◌, ◌∷◌, [], ℕ, List, Bool, true, false, length, get_or, drop, map, refl, sym, ap, ◌∙◌}
 use Rattle.std.proofs.Common.{Err, arith}
 use Rattle.std.proofs.lemmas.List.{at_drop_more}
-use Rattle.net_range.specs.LinesInRange.{section, past, past_more}
+use Rattle.net_range.specs.RuledLines.{section, past, past_more}
 
 -- so many lines of a section were in range, and the next one has this number
 pub record IsAt {X : Type 0} (f : X → Bool) (xs : List X) (start : ℕ) (i line : ℕ) : Type 0 where

@@ -3,7 +3,8 @@ ghost use Rattle.std.specs.Prelude.{◌≡◌, ◌+◌, ◌<◌, ◌^◌, length
 ghost use Rattle.net_list.specs.Form.{ListsCounted};
 ghost use Rattle.net_list.specs.Range.{signal_in_range, body_in_range, register_in_range, gate_in_range};
 ghost use Rattle.net_list.specs.Range.{test_in_range, emit_in_range, exec_in_range, AllInRange};
-ghost use Rattle.net_range.specs.LinesInRange.{section, lines_in_range, IsFirstOutOfRange, past};
+ghost use Rattle.net_range.specs.RuledLines.{section, IsFirstRefused, past};
+ghost use Rattle.net_range.specs.LinesInRange.{lines_in_range};
 
 use crate::line::{
     body_in_range, emit_in_range, exec_in_range, gate_in_range, is_gate, register_in_range,
@@ -19,7 +20,8 @@ pub struct OutOfRange {
     pub line: u64,
 }
 
-/// The number of the line behind the signals, whose count stands on line `from`, or of the first of these lines that is out of range.
+/// The number of the line behind the signals, whose count stands on line `from`, or of the first of these lines
+/// that is out of range.
 fn past_signals(nets: &NetRecords, from: u64) -> Result<u64, u64>
     requires { from + length nets.now.signals < 2 ^ 63 }
     ensures lines { result ≡ past from (section (signal_in_range nets.now) nets.now.signals) }
@@ -35,7 +37,8 @@ fn past_signals(nets: &NetRecords, from: u64) -> Result<u64, u64>
     Ok(line)
 }
 
-/// The number of the line behind the bodies, whose count stands on line `from`, or of the first of these lines that is out of range.
+/// The number of the line behind the bodies, whose count stands on line `from`, or of the first of these lines
+/// that is out of range.
 fn past_bodies(nets: &NetRecords, from: u64) -> Result<u64, u64>
     requires { from + length nets.now.bodies < 2 ^ 63 }
     ensures lines { result ≡ past from (section body_in_range nets.now.bodies) }
@@ -51,7 +54,8 @@ fn past_bodies(nets: &NetRecords, from: u64) -> Result<u64, u64>
     Ok(line)
 }
 
-/// The number of the line behind the registers, whose count stands on line `from`, or of the first of these lines that is out of range.
+/// The number of the line behind the registers, whose count stands on line `from`, or of the first of these lines
+/// that is out of range.
 fn past_registers(nets: &NetRecords, from: u64) -> Result<u64, u64>
     requires { from + length nets.now.registers < 2 ^ 63 }
     ensures lines { result ≡ past from (section (register_in_range nets.now) nets.now.registers) }
@@ -67,7 +71,8 @@ fn past_registers(nets: &NetRecords, from: u64) -> Result<u64, u64>
     Ok(line)
 }
 
-/// The number of the line behind the gates, whose count stands on line `from`, or of the first of these lines that is out of range.
+/// The number of the line behind the gates, whose count stands on line `from`, or of the first of these lines
+/// that is out of range.
 fn past_gates(nets: &NetRecords, from: u64) -> Result<u64, u64>
     requires { from + length nets.now.gates < 2 ^ 63 }
     ensures lines { result ≡ past from (section (gate_in_range nets.now) nets.now.gates) }
@@ -83,7 +88,8 @@ fn past_gates(nets: &NetRecords, from: u64) -> Result<u64, u64>
     Ok(line)
 }
 
-/// The number of the line behind the tests, whose count stands on line `from`, or of the first of these lines that is out of range.
+/// The number of the line behind the tests, whose count stands on line `from`, or of the first of these lines
+/// that is out of range.
 fn past_tests(nets: &NetRecords, from: u64) -> Result<u64, u64>
     requires { from + length nets.now.tests < 2 ^ 63 }
     ensures lines { result ≡ past from (section (test_in_range nets.now) nets.now.tests) }
@@ -99,7 +105,8 @@ fn past_tests(nets: &NetRecords, from: u64) -> Result<u64, u64>
     Ok(line)
 }
 
-/// The number of the line behind the emits, whose count stands on line `from`, or of the first of these lines that is out of range.
+/// The number of the line behind the emits, whose count stands on line `from`, or of the first of these lines
+/// that is out of range.
 fn past_emits(nets: &NetRecords, from: u64) -> Result<u64, u64>
     requires { from + length nets.now.emits < 2 ^ 63 }
     ensures lines { result ≡ past from (section (emit_in_range nets.now) nets.now.emits) }
@@ -115,7 +122,8 @@ fn past_emits(nets: &NetRecords, from: u64) -> Result<u64, u64>
     Ok(line)
 }
 
-/// The number of the line behind the execs, whose count stands on line `from`, or of the first of these lines that is out of range.
+/// The number of the line behind the execs, whose count stands on line `from`, or of the first of these lines
+/// that is out of range.
 fn past_execs(nets: &NetRecords, from: u64) -> Result<u64, u64>
     requires { from + length nets.now.execs < 2 ^ 63 }
     ensures lines { result ≡ past from (section (exec_in_range nets.now) nets.now.execs) }
@@ -154,7 +162,7 @@ fn past_lines(nets: &NetRecords) -> Result<u64, u64>
 pub fn check_range(nets: &NetRecords) -> Result<(), OutOfRange>
     requires { ListsCounted nets.now }
     ensures range { OnOk result (AllInRange nets.now) }
-    ensures first { IfErr result (λ e. IsFirstOutOfRange (lines_in_range nets.now) e.line) }
+    ensures first { IfErr result (λ e. IsFirstRefused (lines_in_range nets.now) e.line) }
 {
     match past_lines(nets) {
         Ok(_) => Ok(()),
