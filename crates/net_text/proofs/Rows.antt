@@ -16,14 +16,14 @@ output : NetSignal
 output =
     record {
       decl =
-        record {
-          name = Some (codes "O");
-          dir = dir.Output;
-          kind = kind.Pure;
-          first = value.Unit;
-          combine = None;
-          pos = record { 0 = 13 };
-        };
+          record {
+            name = Some (codes "O");
+            dir = dir.Output;
+            kind = kind.Pure;
+            first = value.Unit;
+            combine = None;
+            pos = record { 0 = 13 };
+          };
       status = 4;
       pre = 5;
       sel = 1;
@@ -46,7 +46,7 @@ nets version place =
       gates = gates;
       tests = [];
       emits =
-        record { control = 7; signal = 0; sent = sent.Nothing; pos = record { 0 = place } } ∷ [];
+          record { control = 7; signal = 0; sent = sent.Nothing; pos = record { 0 = place } } ∷ [];
       execs = [];
       done = 7;
     }
