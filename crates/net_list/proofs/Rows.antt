@@ -59,19 +59,19 @@ form =
       first_version = λ e. absurd (let clash : ⊥ = cc in clash);
       interface_first = (tt, tt);
       lists =
-        record {
-          signals = omega arith;
-          bodies = omega arith;
-          params = tt;
-          registers = omega arith;
-          gates = omega arith;
-          tests = omega arith;
-          emits = omega arith;
-          execs = omega arith;
-          args = tt;
-        };
+          record {
+            signals = omega arith;
+            bodies = omega arith;
+            params = tt;
+            registers = omega arith;
+            gates = omega arith;
+            tests = omega arith;
+            emits = omega arith;
+            execs = omega arith;
+            args = tt;
+          };
       expressions =
-        record { bodies = tt; tests = tt; emits = (tt, tt); execs = tt };
+          record { bodies = tt; tests = tt; emits = (tt, tt); execs = tt };
     }
 
 pub keeps_rules : IsNets (nets 2 25)
@@ -79,19 +79,19 @@ keeps_rules =
     record {
       form = form;
       range =
-        record {
-          signals = refl;
-          bodies = refl;
-          registers = refl;
-          gates = refl;
-          tests = refl;
-          emits = refl;
-          execs = refl;
-          done = refl;
-        };
+          record {
+            signals = refl;
+            bodies = refl;
+            registers = refl;
+            gates = refl;
+            tests = refl;
+            emits = refl;
+            execs = refl;
+            done = refl;
+          };
       kinds =
-        record {
-          each = record { signals = refl; bodies = refl; tests = refl; emits = refl; execs = refl };
-          names_differ = (tt, tt);
-        };
+          record {
+            each = record { signals = refl; bodies = refl; tests = refl; emits = refl; execs = refl };
+            names_differ = (tt, tt);
+          };
     }
