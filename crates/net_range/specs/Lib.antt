@@ -1,0 +1,2 @@
+pub mod RuledLines
+pub mod LinesInRange

@@ -1,0 +1,4 @@
+pub mod Parts
+pub mod ExpressionText
+pub mod Lines
+pub mod NetText
