@@ -1,5 +1,0 @@
-use Rattle.std.proofs.Common.{length}
-use Rattle.nested_solve.proofs.bag.+without.Given as goal
-
-abbrev pub decreases-without : goal.decreases-without
-decreases-without l = length l.bag.now

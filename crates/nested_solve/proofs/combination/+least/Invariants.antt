@@ -1,5 +1,0 @@
-use Rattle.std.proofs.Common.{length}
-use Rattle.nested_solve.proofs.combination.+least.Given as goal
-
-abbrev pub decreases-least : goal.decreases-least
-decreases-least l = length l.others.now

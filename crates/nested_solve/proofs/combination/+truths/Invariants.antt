@@ -1,5 +1,0 @@
-use Rattle.std.proofs.Common.{length}
-use Rattle.nested_solve.proofs.combination.+truths.Given as goal
-
-abbrev pub decreases-truths : goal.decreases-truths
-decreases-truths l = length l.values.now
