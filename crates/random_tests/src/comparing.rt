@@ -1,0 +1,181 @@
+//! Each reaction of random programs, by the engine and by the plain recursion.
+
+use crate::dice::Dice;
+use crate::programs::write_program;
+use crate::standing::{none_twice, stand};
+use hh_base::item::Item;
+use hh_base::value::{Tri, Value, same_value};
+use hh_term::mark::Marked;
+use hh_term::program::Program;
+use host_expr::cell::{Cell, SigCell};
+use module_compile::compile::compile;
+use nested_reaction::interface::solve;
+use status_rounds::settle::Before;
+use std::alloc::Global;
+use std::test::Fail;
+use sync_step::answer::{SignalNow, StepEnd, Stepped};
+use sync_step::step::step;
+
+const PROGRAMS: u64 = 4;
+const REACTIONS: u64 = 4;
+
+/// Where a program stands, and the last id that an instance got.
+#[derive(Drop)]
+struct Stand {
+    marked: Marked,
+    before: Before,
+    last: u64,
+}
+
+fn is_decided(cell: &SigCell) -> bool {
+    cell.status != Tri::Unknown && !matches!(cell.value, Cell::Unknown)
+}
+
+/// Whether the signal is listed exactly where it is undecided.
+fn lists(undecided: &[u32], signal: u32, cell: &SigCell) -> bool {
+    undecided.contains(&signal) != is_decided(cell)
+}
+
+fn same_signal(now: &SignalNow, cell: &SigCell) -> bool {
+    let value = match &cell.value {
+        Cell::Known(value) => value,
+        Cell::Unknown | Cell::Faulted(_, _) => &cell.preval,
+    };
+    is_decided(cell) && now.status == (cell.status == Tri::One) && same_value(&now.value, value)
+}
+
+fn same_at(end: &StepEnd, signal: u32, cell: &SigCell) -> bool {
+    match end {
+        StepEnd::Undecided(undecided) => lists(undecided, signal, cell),
+        StepEnd::Stepped(stepped) => match stepped.signals.get(signal as usize) {
+            Some(now) => now.signal == signal && same_signal(now, cell),
+            None => false,
+        },
+    }
+}
+
+/// Whether the two tell the same of each signal of the interface.
+fn same(program: &Program, end: &StepEnd, cells: &[SigCell]) -> bool {
+    for signal in 0..program.interface_len() {
+        match cells.get(signal as usize) {
+            Some(cell) if same_at(end, signal, cell) => {}
+            _ => return false,
+        }
+    }
+    true
+}
+
+/// The pure input `a` or not, and the number `n` or not.
+fn inputs(alloc: Global, dice: &mut Dice) -> Result<Vec<(u32, Value)>, Fail> {
+    let mut inputs = Vec::new(alloc);
+    if dice.below(2) == 0 {
+        inputs.push((0, Value::Unit))?;
+    }
+    if dice.below(3) == 0 {
+        inputs.push((1, Value::Int(dice.below(3) as i64)))?;
+    }
+    Ok(inputs)
+}
+
+fn first_before(alloc: Global, program: &Program) -> Result<Before, Fail> {
+    let mut cells = Vec::new(alloc);
+    for signal in program.signals() {
+        if cells.len() < program.interface_len() as usize {
+            cells.push((false, signal.first.copy(alloc)?))?;
+        }
+    }
+    Ok(Before { cells })
+}
+
+fn next_before(alloc: Global, signals: &[SignalNow]) -> Result<Before, Fail> {
+    let mut cells = Vec::new(alloc);
+    for signal in signals {
+        cells.push((signal.status, signal.value.copy(alloc)?))?;
+    }
+    Ok(Before { cells })
+}
+
+/// Goes where an accepted reaction leads.
+fn go_on(alloc: Global, program: &Program, stepped: Stepped, at: &mut Stand) -> Result<(), Fail> {
+    if stepped.multiple.is_some() || stepped.fault.is_some() {
+        return Ok(());
+    }
+    for touch in &stepped.touches {
+        if touch.started.is_some() && touch.runs_after {
+            at.last = at.last.saturating_add(1);
+        }
+    }
+    at.before = next_before(alloc, &stepped.signals)?;
+    at.marked = stand(alloc, program, stepped.next)?;
+    Ok(())
+}
+
+/// An answer to one of the instances, which may be the last one.
+fn answer(dice: &mut Dice, at: &mut Stand) {
+    let id = dice.below(at.last.saturating_add(1));
+    let value = Value::Int(dice.below(3) as i64);
+    let last = dice.below(2) == 0;
+    let _ = at.marked.answer(id, Item { value, last });
+}
+
+/// One reaction by both. The answer tells whether they are the same.
+fn react(alloc: Global, dice: &mut Dice, program: &Program, at: &mut Stand) -> Result<bool, Fail> {
+    let inputs = inputs(alloc, dice)?;
+    if !none_twice(&inputs) || at.before.cells.len() != program.interface_len() as usize {
+        return Err(Fail::new("the inputs do not fit"));
+    }
+    let cells = solve(alloc, program, &at.marked, &at.before.cells, &inputs)?;
+    let end = step(alloc, program, &at.marked, &at.before, &inputs, at.last)?;
+    if !same(program, &end, &cells.signals) {
+        return Ok(false);
+    }
+    if let StepEnd::Stepped(stepped) = end {
+        go_on(alloc, program, stepped, at)?;
+    }
+    Ok(true)
+}
+
+fn runs_the_same(alloc: Global, dice: &mut Dice, program: &Program) -> Result<bool, Fail> {
+    let mut at = Stand {
+        marked: Marked::boot(program),
+        before: first_before(alloc, program)?,
+        last: 0,
+    };
+    for _ in 0..REACTIONS {
+        if !react(alloc, dice, program, &mut at)? {
+            return Ok(false);
+        }
+        answer(dice, &mut at);
+    }
+    Ok(true)
+}
+
+fn compiled(alloc: Global, text: &str) -> Result<Program, Fail> {
+    if text.len() >= 1 << 32 {
+        return Err(Fail::new("the text is too long"));
+    }
+    match compile(alloc, text.as_bytes()) {
+        Ok(program) => Ok(program),
+        Err(_) => Err(Fail::new(format!(in alloc; "no program: {text}")?)),
+    }
+}
+
+/// A program in which the two differ is printed.
+fn compare(rt: &HostRuntime, dice: &mut Dice, depth: u64) -> Result<(), Fail> {
+    let text = write_program(rt.alloc(), dice, depth)?;
+    let program = compiled(rt.alloc(), &text)?;
+    if !runs_the_same(rt.alloc(), dice, &program)? {
+        println!(rt; "{text}")?;
+        return Err(Fail::new("the program that is printed runs differently"));
+    }
+    Ok(())
+}
+
+#[test]
+fn small_programs(rt: HostRuntime) -> Result<(), Fail> {
+    let mut dice = Dice::new(1);
+    for _ in 0..PROGRAMS {
+        compare(&rt, &mut dice, 3)?;
+    }
+    Ok(())
+}
