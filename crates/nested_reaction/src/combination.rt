@@ -113,7 +113,9 @@ fn by_word(alloc: Global, word: CombineWord, values: &[Value]) -> Result<Value, 
     ensures { IfOk result (λ v. v ≡ combined_by word values.now) }
 {
     match word {
-        CombineWord::Plus => Ok(Value::Int(i64::try_from(sum(&numbers(alloc, values)?)?).unwrap_or(0))),
+        CombineWord::Plus => Ok(Value::Int(i64::try_from(sum(&numbers(alloc, values)?)?).unwrap_or(
+            0,
+        ))),
         CombineWord::Min => match numbers(alloc, values)?.as_slice() {
             [] => Ok(Value::Int(0)),
             [first, rest @ ..] => Ok(Value::Int(least(*first, rest))),

@@ -115,7 +115,15 @@ fn nest(
         [last, rest @ ..] => {
             let cell = solved_cell(alloc, program, marked, inputs, signal, last, rest, cells)?;
             let inner = with(alloc, cells, signal, cell)?;
-            let body = nest(alloc, program, marked, inputs, next(program, signal), rest, &inner)?;
+            let body = nest(
+                alloc,
+                program,
+                marked,
+                inputs,
+                next(program, signal),
+                rest,
+                &inner,
+            )?;
             let body = with_given(alloc, inputs, signal, body)?;
             hide(alloc, signal, body)
         }
@@ -142,7 +150,15 @@ fn interface_round(
         (environment_of cells.now) cell) }
 {
     let inner = with(alloc, cells, signal, copy_signal(alloc, &cell)?)?;
-    let body = nest(alloc, program, marked, inputs, next(program, signal), rest, &inner)?;
+    let body = nest(
+        alloc,
+        program,
+        marked,
+        inputs,
+        next(program, signal),
+        rest,
+        &inner,
+    )?;
     let body = with_given(alloc, inputs, signal, body)?;
     raised(alloc, program, signal, &cell, &body)
 }
@@ -190,7 +206,15 @@ fn solved(
         [last, rest @ ..] => {
             let cell = solved_cell(alloc, program, marked, inputs, signal, last, rest, &cells)?;
             let inner = with(alloc, &cells, signal, cell)?;
-            solved(alloc, program, marked, inputs, next(program, signal), rest, inner)
+            solved(
+                alloc,
+                program,
+                marked,
+                inputs,
+                next(program, signal),
+                rest,
+                inner,
+            )
         }
     }
 }

@@ -67,7 +67,13 @@ fn one_where(alloc: Global, flag: bool, signal: u32, cell: &Cell) -> Result<Bag,
 }
 
 /// A statement that emits, and completes with this code.
-pub fn emits(alloc: Global, signal: u32, cell: Cell, code: u16, sure: bool) -> Result<MustCan, NoMemory>
+pub fn emits(
+    alloc: Global,
+    signal: u32,
+    cell: Cell,
+    code: u16,
+    sure: bool,
+) -> Result<MustCan, NoMemory>
     requires { code < 258 }
     ensures { IfOk result (λ a. must_can_of a ≡ gives ((signal, cell) ∷ []) code (index_of sure)) }
 {
@@ -181,7 +187,14 @@ pub fn raised(
     let must = cells_of(alloc, signal, &body.must)?;
     let can = cells_of(alloc, signal, &body.can)?;
     let kind = kind_of(program, signal);
-    let value = value_by(alloc, kind, word_of(program, signal), &cell.preval, &must, &can)?;
+    let value = value_by(
+        alloc,
+        kind,
+        word_of(program, signal),
+        &cell.preval,
+        &must,
+        &can,
+    )?;
     let preval = cell.preval.copy(alloc)?;
     Ok(SigCell {
         status: status_by(&must, &can),

@@ -12,7 +12,9 @@ ghost use Rattle.nested_reaction.specs.View.{index_of, must_can_of, verdict};
 
 use crate::declared::{first_of, target_of};
 use crate::environment::{copy_signal, unsolved, with};
-use crate::must_can::{MustCan, beside, completes, emits, hide, in_sequence, is_end, one_of, raised, trapped};
+use crate::must_can::{
+    MustCan, beside, completes, emits, hide, in_sequence, is_end, one_of, raised, trapped,
+};
 use hh_base::item::Queue;
 use hh_base::value::{NoMemory, Value};
 use hh_term::mark::Mark;
@@ -83,7 +85,13 @@ fn answer(
     };
     let code = if first.last { 0 } else { 1 };
     match target_of(program, site) {
-        Some(signal) => emits(alloc, signal, Cell::Known(first.value.copy(alloc)?), code, sure),
+        Some(signal) => emits(
+            alloc,
+            signal,
+            Cell::Known(first.value.copy(alloc)?),
+            code,
+            sure,
+        ),
         None => Ok(completes(alloc, code, sure)),
     }
 }

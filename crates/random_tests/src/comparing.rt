@@ -8,6 +8,7 @@ use hh_base::value::{Tri, Value, same_value};
 use hh_term::mark::Marked;
 use hh_term::program::Program;
 use host_expr::cell::{Cell, SigCell};
+use last_walk::touch::Touch;
 use module_compile::compile::compile;
 use nested_reaction::interface::solve;
 use status_rounds::settle::Before;
@@ -16,7 +17,8 @@ use std::test::Fail;
 use sync_step::answer::{SignalNow, StepEnd, Stepped};
 use sync_step::step::step;
 
-const PROGRAMS: u64 = 4;
+const PROGRAMS: u64 = 200;
+
 const REACTIONS: u64 = 4;
 
 /// Where a program stands, and the last id that an instance got.
@@ -65,7 +67,7 @@ fn same(program: &Program, end: &StepEnd, cells: &[SigCell]) -> bool {
     true
 }
 
-/// The pure input `a` or not, and the number `n` or not.
+/// The pure signal `a` or not, and the number `n` or not.
 fn inputs(alloc: Global, dice: &mut Dice) -> Result<Vec<(u32, Value)>, Fail> {
     let mut inputs = Vec::new(alloc);
     if dice.below(2) == 0 {
@@ -95,18 +97,25 @@ fn next_before(alloc: Global, signals: &[SignalNow]) -> Result<Before, Fail> {
     Ok(Before { cells })
 }
 
+/// How many instances got an id.
+fn count_started(touches: &[Touch]) -> u64 {
+    let mut count = 0u64;
+    for touch in touches {
+        if touch.started.is_some() && touch.runs_after {
+            count = count.saturating_add(1);
+        }
+    }
+    count
+}
+
 /// Goes where an accepted reaction leads.
-fn go_on(alloc: Global, program: &Program, stepped: Stepped, at: &mut Stand) -> Result<(), Fail> {
+fn go_on(alloc: Global, program: &Program, stepped: &Stepped, at: &mut Stand) -> Result<(), Fail> {
     if stepped.multiple.is_some() || stepped.fault.is_some() {
         return Ok(());
     }
-    for touch in &stepped.touches {
-        if touch.started.is_some() && touch.runs_after {
-            at.last = at.last.saturating_add(1);
-        }
-    }
+    at.last = at.last.saturating_add(count_started(&stepped.touches));
     at.before = next_before(alloc, &stepped.signals)?;
-    at.marked = stand(alloc, program, stepped.next)?;
+    at.marked = stand(alloc, program, &stepped.next)?;
     Ok(())
 }
 
@@ -118,21 +127,51 @@ fn answer(dice: &mut Dice, at: &mut Stand) {
     let _ = at.marked.answer(id, Item { value, last });
 }
 
-/// One reaction by both. The answer tells whether they are the same.
-fn react(alloc: Global, dice: &mut Dice, program: &Program, at: &mut Stand) -> Result<bool, Fail> {
-    let inputs = inputs(alloc, dice)?;
-    if !none_twice(&inputs) || at.before.cells.len() != program.interface_len() as usize {
+/// Whether the plain recursion tells the same.
+fn agrees(
+    alloc: Global,
+    program: &Program,
+    at: &Stand,
+    inputs: &[(u32, Value)],
+    end: &StepEnd,
+) -> Result<bool, Fail> {
+    if at.before.cells.len() != program.interface_len() as usize {
+        return Err(Fail::new("the interface does not fit"));
+    }
+    let cells = solve(alloc, program, &at.marked, &at.before.cells, inputs)?;
+    Ok(same(program, end, &cells.signals))
+}
+
+/// The reaction to these inputs by the engine, which is compared. The answer tells whether both are the same.
+fn react(
+    alloc: Global,
+    program: &Program,
+    inputs: &[(u32, Value)],
+    at: &mut Stand,
+) -> Result<bool, Fail> {
+    if !none_twice(inputs) || at.before.cells.len() != program.interface_len() as usize {
         return Err(Fail::new("the inputs do not fit"));
     }
-    let cells = solve(alloc, program, &at.marked, &at.before.cells, &inputs)?;
-    let end = step(alloc, program, &at.marked, &at.before, &inputs, at.last)?;
-    if !same(program, &end, &cells.signals) {
+    let end = step(alloc, program, &at.marked, &at.before, inputs, at.last)?;
+    if !agrees(alloc, program, at, inputs, &end)? {
         return Ok(false);
     }
-    if let StepEnd::Stepped(stepped) = end {
+    if let StepEnd::Stepped(stepped) = &end {
         go_on(alloc, program, stepped, at)?;
     }
     Ok(true)
+}
+
+fn react_at_random(
+    alloc: Global,
+    dice: &mut Dice,
+    program: &Program,
+    at: &mut Stand,
+) -> Result<bool, Fail> {
+    let inputs = inputs(alloc, dice)?;
+    let same = react(alloc, program, &inputs, at)?;
+    answer(dice, at);
+    Ok(same)
 }
 
 fn runs_the_same(alloc: Global, dice: &mut Dice, program: &Program) -> Result<bool, Fail> {
@@ -142,10 +181,9 @@ fn runs_the_same(alloc: Global, dice: &mut Dice, program: &Program) -> Result<bo
         last: 0,
     };
     for _ in 0..REACTIONS {
-        if !react(alloc, dice, program, &mut at)? {
+        if !react_at_random(alloc, dice, program, &mut at)? {
             return Ok(false);
         }
-        answer(dice, &mut at);
     }
     Ok(true)
 }

@@ -4,11 +4,11 @@ use crate::dice::Dice;
 use std::alloc::Global;
 use std::test::Fail;
 
-/// What each program begins with: its interface of four signals.
+/// What each program begins with: its interface of three signals.
 const HEAD: &str = "\
 body twice(n: int): int { n * 2 }
 host ask(int): int;
-module M(in a, inout n: int combine plus, out o, out w: int) { ";
+module M(inout a, inout n: int combine plus, out w: int) { ";
 
 /// Statements. A capital letter stands for a part: `P` a statement; `L` a new pure local and `M` a statement in
 /// its scope, `I` and `J` the same of a number, `T` and `U` of a trap; `E` a test; `V` a number; `X` and `Z` a
@@ -121,8 +121,8 @@ fn write_letter(
     text: &mut String,
 ) -> Result<(), Fail> {
     match letter {
-        'R' => write_signal(dice, &["a", "o"], 's', scope.pure, text),
-        'X' => write_signal(dice, &["o"], 's', scope.pure, text),
+        'R' => write_signal(dice, &["a"], 's', scope.pure, text),
+        'X' => write_signal(dice, &["a"], 's', scope.pure, text),
         'Y' => write_signal(dice, &["n", "w"], 'i', scope.numbers, text),
         'Z' => write_signal(dice, &["n", "w"], 'i', scope.numbers, text),
         'B' => write_break(dice, scope, text),
@@ -164,7 +164,12 @@ fn scope_of_part(letter: char, scope: Scope) -> Scope {
     }
 }
 
-fn write_statement(dice: &mut Dice, depth: u64, scope: Scope, text: &mut String) -> Result<(), Fail> {
+fn write_statement(
+    dice: &mut Dice,
+    depth: u64,
+    scope: Scope,
+    text: &mut String,
+) -> Result<(), Fail> {
     let pattern = if depth == 0 || dice.below(8) == 0 {
         one_of(dice, &SIMPLE)
     } else {

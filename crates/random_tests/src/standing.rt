@@ -2,8 +2,7 @@
 
 ghost use Rattle.std.specs.Prelude.{◌≡◌, ◌≢◌, IsTrue, IfOk};
 ghost use Rattle.std.specs.List.{AllByRecursion};
-ghost use Rattle.hh_base.specs.declared.value.Value.{Value as AValue};
-ghost use Rattle.hh_term.specs.Marks.{IsControlOf, IsMarkOf, ids_in, ids_of};
+ghost use Rattle.hh_term.specs.Marks.{IdsDiffer, IsControlOf, IsMarkOf, ids_in, ids_of};
 ghost use Rattle.hh_term.specs.Pairs.{EachPair};
 ghost use Rattle.hh_term.specs.ProgramView.{kernel_of};
 ghost use Rattle.hh_term.specs.Views.{control_of, selection_of, statement_of};
@@ -95,15 +94,23 @@ fn all_differ(ids: &[u64]) -> bool
     }
 }
 
+fn ids_differ(alloc: Global, control: &Control) -> Result<bool, NoMemory>
+    ensures { IfOk result (λ b. IsTrue b → IdsDiffer (control_of control.now)) }
+{
+    let ids = ids_of(alloc, control)?;
+    Ok(all_differ(&ids))
+}
+
 /// The program with its control here.
-pub fn stand(alloc: Global, program: &Program, control: Control) -> Result<Marked, Fail> {
-    if !is_of(program, &control) {
-        return Err(Fail::new("the mark is not of the program"));
+pub fn stand(alloc: Global, program: &Program, control: &Control) -> Result<Marked, Fail> {
+    if !is_of(program, control) {
+        return Err(Fail::new("control is not one of the program"));
     }
-    if !all_differ(&ids_of(alloc, &control)?) {
+    let differ = ids_differ(alloc, control)?;
+    if !differ {
         return Err(Fail::new("two instances have one id"));
     }
-    Ok(Marked::new(program, control))
+    Ok(Marked::new(program, control.copy(alloc)?))
 }
 
 fn is_not_given(signal: u32, others: &[(u32, Value)]) -> bool
