@@ -1,7 +1,6 @@
 -- How the values of the code stand for what a statement must do and can do. (This project's own.)
-use Rattle.std.specs.Prelude.{ℕ, Bool, true, false, Option, Some, None, ◌++◌, [], cond, List, map}
+use Rattle.std.specs.Prelude.{ℕ, Bool, true, false, Option, Some, None, cond, List, map}
 use Rattle.hh_base.specs.declared.value.Value.{Value}
-use Rattle.hh_term.specs.Codes.{in_turn}
 use Rattle.hh_term.specs.Flags.{codes_in}
 use Rattle.hh_term.specs.MustCan as kernel
 use Rattle.hh_term.specs.MustCan.{Index, Executed, Possible, go_on}

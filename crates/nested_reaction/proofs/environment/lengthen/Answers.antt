@@ -1,4 +1,4 @@
-use Rattle.std.proofs.Common.{sym, ap, ◌∙◌, ◌∷◌, ◌++◌, ◌+◌, length, [], length-append}
+use Rattle.std.proofs.Common.{ap, ◌∙◌, ◌∷◌, ◌++◌, ◌+◌, length, [], length-append}
 use Rattle.host_expr.specs.Environment.{env_of}
 use Rattle.nested_reaction.proofs.Environments.{one_blank}
 use Rattle.nested_reaction.proofs.environment.lengthen.Goals as goal

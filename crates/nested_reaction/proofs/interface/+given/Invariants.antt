@@ -1,4 +1,4 @@
-use Rattle.std.proofs.Common.{◌+◌, ◌*◌, length}
+use Rattle.std.proofs.Common.{length}
 use Rattle.nested_reaction.proofs.interface.+given.Given as goal
 
 abbrev pub decreases-given : goal.decreases-given
