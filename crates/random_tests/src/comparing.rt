@@ -198,13 +198,25 @@ fn compiled(alloc: Global, text: &str) -> Result<Program, Fail> {
     }
 }
 
-/// A program in which the two differ is printed.
-fn compare(rt: &HostRuntime, dice: &mut Dice, depth: u64) -> Result<(), Fail> {
-    let text = write_program(rt.alloc(), dice, depth)?;
-    let program = compiled(rt.alloc(), &text)?;
-    if !runs_the_same(rt.alloc(), dice, &program)? {
+/// The program of this text is printed where the two differ.
+fn compare(rt: &HostRuntime, dice: &mut Dice, text: &str) -> Result<(), Fail> {
+    let program = compiled(rt.alloc(), text)?;
+    let same = runs_the_same(rt.alloc(), dice, &program)?;
+    if !same {
         println!(rt; "{text}")?;
         return Err(Fail::new("the program that is printed runs differently"));
+    }
+    Ok(())
+}
+
+fn compare_one(rt: &HostRuntime, dice: &mut Dice, depth: u64) -> Result<(), Fail> {
+    let text = write_program(rt.alloc(), dice, depth)?;
+    compare(rt, dice, &text)
+}
+
+fn compare_all(rt: &HostRuntime, dice: &mut Dice) -> Result<(), Fail> {
+    for _ in 0..PROGRAMS {
+        compare_one(rt, dice, 3)?;
     }
     Ok(())
 }
@@ -212,8 +224,5 @@ fn compare(rt: &HostRuntime, dice: &mut Dice, depth: u64) -> Result<(), Fail> {
 #[test]
 fn small_programs(rt: HostRuntime) -> Result<(), Fail> {
     let mut dice = Dice::new(1);
-    for _ in 0..PROGRAMS {
-        compare(&rt, &mut dice, 3)?;
-    }
-    Ok(())
+    compare_all(&rt, &mut dice)
 }
