@@ -17,7 +17,7 @@ use Rattle.turn_cell.specs.Views.{gained, with_ticket, in_turn, after_turn, with
 use Rattle.turn_cell.specs.Rule.{tickets_at, turns_at, HasTicket, StageFits, NoteFits, IsHome, IsOut}
 use Rattle.turn_cell.specs.Rule.{tickets_of, turns_of, places_of, spent_of, allowance_of}
 use Rattle.turn_cell.specs.Rule.{ViewFits, Differ, TicketOf, PlaceOf, Lies, IsTurnState}
-use Rattle.turn_cell.specs.Steps.{DrawsTicket, HasEntered, LooksForTurn, MayLeave, LeavesTurn, ClearsNote}
+use Rattle.turn_cell.specs.Steps.{DrawsTicket, LooksForTurn, MayLeave, LeavesTurn, ClearsNote}
 use Rattle.turn_cell.proofs.Places.{begins_itself, begins_trans, begins_length, total_set, total_at, each_set, rises_wide, rises_snoc}
 use Rattle.turn_cell.proofs.Places.{rises_below, among_snoc, total_some, gained_none, gained_one, gained_most, common}
 
@@ -142,8 +142,8 @@ module _ {E B : Type 0} where
     abbrev Rule : State (Option T) (SeatView E B) → Type 0
     Rule = IsTurnState story begins start
 
-    abbrev AMe : Type 0
-    AMe = Me (Option T) (SeatView E B)
+    abbrev Standing : Type 0
+    Standing = Me (Option T) (SeatView E B)
 
     -- one view changes
     moved : (s : State (Option T) (SeatView E B)) (r : Rule s) (id : ℕ) (v w : SeatView E B) → get_elem? s.views id ≡ m.some v
@@ -188,7 +188,7 @@ module _ {E B : Type 0} where
         let b : s.views ≡ set s.views id v = sym (set_again s.views id v at) in
         subst Rule (λ k. record { words = a k; homes = s.homes; views = b k }) r
 
-    pub draws : (slots id : ℕ) (me : AMe) → me.0.stage ≡ Outside → 0 < me.0.allowance
+    pub draws : (slots id : ℕ) (me : Standing) → me.0.stage ≡ Outside → 0 < me.0.allowance
         → Allows Rule slots id me 1 (λ n. (n + 1) % 2 ^ 64) (DrawsTicket (step slots 1 1 0 m.none) me)
     draws slots id me out some s r wide at small =
         let v : SeatView E B = me.0 in let x : ℕ = get_or s.words 1 0 in let w : SeatView E B = with_ticket v x in
@@ -227,7 +227,7 @@ module _ {E B : Type 0} where
           refl,
         )
 
-    pub looks : (slots id : ℕ) (me : AMe) (t : ℕ) → me.0.stage ≡ Waiting t
+    pub looks : (slots id : ℕ) (me : Standing) (t : ℕ) → me.0.stage ≡ Waiting t
         → Allows Rule slots id me 0 (λ n. n) (LooksForTurn story begins (step slots 0 0 0 m.none) me)
     looks slots id me t waits s r wide at small =
         let v : SeatView E B = me.0 in let x : ℕ = get_or s.words 0 0 in
@@ -356,7 +356,7 @@ module _ {E B : Type 0} where
         ))
         r.home
 
-    pub leaves : (slots id : ℕ) (me : AMe) → MayLeave story begins me
+    pub leaves : (slots id : ℕ) (me : Standing) → MayLeave story begins me
         → Allows Rule slots id me 0 (λ n. (n + 1) % 2 ^ 64) (LeavesTurn story (step slots 0 1 0 m.none) me)
     leaves slots id me may =
         subst (λ (k : List (ℕ × Option T)). Allows Rule slots id (me.0, k) 0 (λ n. (n + 1) % 2 ^ 64)
@@ -364,7 +364,7 @@ module _ {E B : Type 0} where
         (sym may.held)
         (leaves_at slots id me.0 may.ticket may.before may.value may.first may.stage may.grows may.start may.begun)
 
-    pub clears : (slots id : ℕ) (me : AMe) → Allows Rule slots id me 0 (λ n. n) (ClearsNote (step slots 0 0 0 m.none) me)
+    pub clears : (slots id : ℕ) (me : Standing) → Allows Rule slots id me 0 (λ n. n) (ClearsNote (step slots 0 0 0 m.none) me)
     clears slots id me s r wide at small =
         let v : SeatView E B = me.0 in let x : ℕ = get_or s.words 0 0 in let w : SeatView E B = without_note v in
         let is : x ≡ r.serving = ap (λ (l : List ℕ). get_or l 0 0) r.words in

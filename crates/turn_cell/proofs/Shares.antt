@@ -8,7 +8,7 @@ use Rattle.atomic_table.proofs.Lists.{at_set, set_else}
 use Rattle.turn_cell.specs.declared.view.SeatView.{SeatView}
 use Rattle.turn_cell.specs.declared.view.Stage.{Stage}
 use Rattle.turn_cell.specs.declared.view.Stage.TheVariants.{Outside, Waiting, InTurn}
-use Rattle.turn_cell.specs.Lists.{Begins, Among, total, merge, longer}
+use Rattle.turn_cell.specs.Lists.{Begins, total, merge, longer}
 use Rattle.turn_cell.specs.Views.{first_view, joined_away, kept_half, given_half, noted_both}
 use Rattle.turn_cell.specs.Rule.{tickets_at, turns_at, tickets_of, turns_of, places_of, spent_of, allowance_of}
 use Rattle.turn_cell.specs.Rule.{ViewFits, Differ, TicketOf, PlaceOf, IsHome, IsOut, Lies, IsTurnState}

@@ -10,12 +10,13 @@ use Rattle.turn_cell.specs.declared.view.Stage.TheVariants.{Outside, Waiting, In
 use Rattle.turn_cell.specs.Lists.{Begins, RisesTo, Among, total}
 
 module _ {E : Type 0} where
-  -- the numbers of which the rule has sums: one for a ticket, and one for a turn
+  -- 1 where there is a ticket
   abbrev pub tickets_at : Stage E → ℕ
   tickets_at Outside = 0
   tickets_at (Waiting t) = 1
   tickets_at (InTurn t before) = 1
 
+  -- 1 in turn
   abbrev pub turns_at : Stage E → ℕ
   turns_at Outside = 0
   turns_at (Waiting t) = 0
@@ -37,13 +38,14 @@ module _ {E : Type 0} where
   NoteFits current most [] = Unit {0}
   NoteFits current most (seen ∷ note) = Begins seen current × (length seen ≤ most) × NoteFits current most note
 
--- the value is out, with the one view that is in turn
 module _ {T : Type 0} where
+  -- the value is out, with the one view that is in turn
   pub record IsOut (homes : List (m.Option (Option T))) (turns : ℕ) : Type 0 where
     pub away : homes ≡ m.none ∷ []
     pub one : turns ≡ 1
 
 module _ {E B : Type 0} where
+  -- the five numbers of a view of which the rule has sums
   abbrev pub tickets_of : SeatView E B → ℕ
   tickets_of v = tickets_at v.stage
 
@@ -59,6 +61,7 @@ module _ {E B : Type 0} where
   abbrev pub allowance_of : SeatView E B → ℕ
   allowance_of v = v.allowance
 
+  -- one view: its places lie in what was seen, which begins the current history, and are no more than the turns that were spent
   pub record ViewFits (start : B) (serving ticket : ℕ) (current : List E) (v : SeatView E B) : Type 0 where
     pub starts : (v.start ≡ Some start) ⊎ (v.start ≡ None)
     pub seen : Begins v.seen current
@@ -91,6 +94,8 @@ module _ {E B : Type 0} where
     abbrev pub Lies : B → List E → List (m.Option (Option T)) → ℕ → Type 0
     Lies start current homes turns = IsHome start current homes turns ⊎ IsOut homes turns
 
+    -- all views: no two have one ticket or one place. Added up, tickets that are out follow the one that is served, places are as
+    -- many as entries, spent turns are the ticket that is served, and turns that are left and the next ticket are 2^63
     pub record IsTurnState (start : B) (s : State (Option T) (SeatView E B)) : Type 0 where
       pub serving : ℕ
       pub ticket : ℕ

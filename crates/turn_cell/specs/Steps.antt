@@ -44,18 +44,19 @@ module _ {E B T : Type 0} where
       → new ≡ (after_turn old.0 before (story value), [])
 
 module _ {E B T : Type 0} (story : T → List E) (begins : T → B) where
-  abbrev AMe : Type 0
-  AMe = Me (Option T) (SeatView E B)
+  -- what a seat knows, and the slots that it holds
+  abbrev Standing : Type 0
+  Standing = Me (Option T) (SeatView E B)
 
   -- its turn has come, and it holds the slot with the value, whose history begins with what it had seen
-  pub record HasEntered (old : AMe) (t : ℕ) (new : AMe) : Type 0 where
+  pub record HasEntered (old : Standing) (t : ℕ) (new : Standing) : Type 0 where
     pub value : T
     pub took : new ≡ (in_turn old.0 t (story value), (0, Some value) ∷ old.1)
     pub seen : Begins old.0.seen (story value)
     pub start : (c : B) → old.0.start ≡ Some c → begins value ≡ c
 
   -- the ticket that is served is its own, or it waits on
-  abbrev pub LooksForTurn : Step (Option T) → AMe → ℕ → AMe → Type 0
+  abbrev pub LooksForTurn : Step (Option T) → Standing → ℕ → Standing → Type 0
   LooksForTurn st old found new =
       (t : ℕ) → old.0.stage ≡ Waiting t → (found ≡ t → HasEntered old t new) × (found ≢ t → new ≡ old)
 
@@ -68,7 +69,7 @@ module _ {E B T : Type 0} (story : T → List E) (begins : T → B) where
     pub job : R (begins old) (story old) (story value)
 
   -- it is in turn, and the value that it holds has kept its start, and its history, or has one entry more
-  pub record MayLeave (me : AMe) : Type 0 where
+  pub record MayLeave (me : Standing) : Type 0 where
     pub ticket : ℕ
     pub before : List E
     pub value : T
