@@ -1,5 +1,6 @@
 //! The inbox, and the passes with which threads post and take.
 ghost use Rattle.std.specs.Prelude.{◌≡◌, ◌<◌, ◌≤◌, length};
+ghost use Rattle.crossbeam_queue.specs.Passes.{view, ruled_capacity};
 
 use crate::steps::InboxRule;
 use crate::view::PassView;
@@ -12,7 +13,7 @@ use std::alloc::Global;
 pub struct Inbox {
     pub(crate) queue: RuledArrayQueue<Answer, PassView<Answer>, InboxRule, Global>,
     pub(crate) posters: u64,
-    ghost cap: { queue.cap ≡ 4096 },
+    ghost places: { ruled_capacity queue ≡ 4096 },
     ghost most: { posters ≤ 9 },
 }
 
@@ -20,9 +21,9 @@ pub struct Inbox {
 #[derive(Drop)]
 pub struct PostPass {
     pub(crate) pass: Pass<Answer, PassView<Answer>>,
-    ghost part: { pass.me.0.client.parts ≡ 1 },
-    ghost alone: { length pass.me.0.client.gathered ≡ 0 },
-    ghost only_posts: { pass.me.0.client.takes ≡ 0 },
+    ghost part: { (view pass).parts ≡ 1 },
+    ghost alone: { length (view pass).gathered ≡ 0 },
+    ghost only_posts: { (view pass).takes ≡ 0 },
 }
 
 /// With it a thread takes. It counts how often it found the queue empty.
@@ -30,7 +31,7 @@ pub struct PostPass {
 pub struct TakePass {
     pub(crate) pass: Pass<Answer, PassView<Answer>>,
     pub(crate) empties: u64,
-    ghost takes: { 0 < pass.me.0.client.takes },
+    ghost takes: { 0 < (view pass).takes },
 }
 
 /// The queue was full. The answer comes back.
