@@ -1,0 +1,5 @@
+pub mod Places
+pub mod Merged
+pub mod Keeps
+pub mod Shares
+pub mod Turned
