@@ -198,15 +198,24 @@ fn compiled(alloc: Global, text: &str) -> Result<Program, Fail> {
     }
 }
 
+/// Whether the program of this text runs the same by both.
+fn text_runs_the_same(alloc: Global, dice: &mut Dice, text: &str) -> Result<bool, Fail> {
+    let program = compiled(alloc, text)?;
+    runs_the_same(alloc, dice, &program)
+}
+
+fn print_program(rt: &HostRuntime, text: &str) -> Result<(), Fail> {
+    println!(rt; "{text}")?;
+    Ok(())
+}
+
 /// The program of this text is printed where the two differ.
 fn compare(rt: &HostRuntime, dice: &mut Dice, text: &str) -> Result<(), Fail> {
-    let program = compiled(rt.alloc(), text)?;
-    let same = runs_the_same(rt.alloc(), dice, &program)?;
-    if !same {
-        println!(rt; "{text}")?;
-        return Err(Fail::new("the program that is printed runs differently"));
+    if text_runs_the_same(rt.alloc(), dice, text)? {
+        return Ok(());
     }
-    Ok(())
+    print_program(rt, text)?;
+    Err(Fail::new("the program that is printed runs differently"))
 }
 
 fn compare_one(rt: &HostRuntime, dice: &mut Dice, depth: u64) -> Result<(), Fail> {
