@@ -24,7 +24,7 @@ module _ (K : Kernel) (f : ℕ → ℕ) (ls : List ℕ) where
   abbrev Does : MustCan → MustCan → Type 0
   Does = DoesTheSame K f ls
 
-  emits_both : (a b c d : Bag) → Emits a c → Emits b d → Emits (a ++ b) (c ++ d)
+  pub emits_both : (a b c d : Bag) → Emits a c → Emits b d → Emits (a ++ b) (c ++ d)
   emits_both [] b [] d h k = k
   emits_both (x ∷ a) b (y ∷ c) d h k = (h.0, emits_both a b c d h.1 k)
   emits_both [] b (y ∷ c) d h k = absurd h
@@ -138,7 +138,7 @@ module _ (K : Kernel) (f : ℕ → ℕ) (ls : List ℕ) (s n : ℕ) (low : (t : 
       at true x = subst (λ z. Z true z) (sym (eq-eqb n n refl)) (local x)
       at false x = subst (λ z. Z false z) (sym (other_number t x h)) (other x)
 
-  same_cells : (a c : Bag) → EmitsTheSame K g (s ∷ ls) a c → cells_of n c ≡ cells_of s a
+  pub same_cells : (a c : Bag) → EmitsTheSame K g (s ∷ ls) a c → cells_of n c ≡ cells_of s a
   same_cells [] [] h = refl
   same_cells (e ∷ a) (d ∷ c) h =
       ap (λ z. cond (z == n) (d.1 ∷ cells_of n c) (cells_of n c)) h.0.1
@@ -147,7 +147,7 @@ module _ (K : Kernel) (f : ℕ → ℕ) (ls : List ℕ) (s n : ℕ) (low : (t : 
   same_cells [] (d ∷ c) h = absurd h
   same_cells (e ∷ a) [] h = absurd h
 
-  emits_without : (a c : Bag) → EmitsTheSame K g (s ∷ ls) a c → EmitsTheSame K f ls (without s a) (without n c)
+  pub emits_without : (a c : Bag) → EmitsTheSame K g (s ∷ ls) a c → EmitsTheSame K f ls (without s a) (without n c)
   emits_without [] [] h = tt
   emits_without (e ∷ a) (d ∷ c) h =
       subst (λ z. EmitsTheSame K f ls (without s (e ∷ a)) (cond (z == n) (without n c) (d ∷ without n c))) (sym h.0.1)

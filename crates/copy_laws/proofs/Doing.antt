@@ -72,7 +72,7 @@ not_true true h = absurd (h refl)
 not_true false h = refl
 
 -- a statement that waits has not 0 among the codes with which it starts
-waits : (U : Table) (p : Statement) (i : Index) (F : Env) → LoopsWait p → static_codes p 0 ≡ false
+pub waits : (U : Table) (p : Statement) (i : Index) (F : Env) → LoopsWait p → static_codes p 0 ≡ false
     → (must_can U p Start i F).codes 0 ≡ false
 waits U p i F w z = not_true ((must_can U p Start i F).codes 0)
     (λ t. (let s = started_codes_are_static U p i F w 0 t in let no : ⊥ = cc in no))
@@ -109,6 +109,16 @@ second_half : (U : Table) (c d : Statement) (x : Selection) (i : Index) (F : Env
 second_half U c d x i F w z =
     ap (sequence (must_can U d (Resume x) i F)) (fun_ext (λ j. starts_as_first U c d j F w z))
 
+-- what is declared of a signal
+abbrev pub kind_of : Option SignalDecl → Kind
+kind_of o = (elim o [ Some d ↦ d.kind | None ↦ kind.Pure ])
+
+abbrev pub word_of : Option SignalDecl → Option CombineWord
+word_of o = (elim o [ Some d ↦ d.combine | None ↦ None ])
+
+abbrev pub first_of : Option SignalDecl → Value
+first_of o = (elim o [ Some d ↦ d.first | None ↦ value.Unit ])
+
 module _ (K C : Kernel) (same_interface : C.interface ≡ K.interface) (same_bodies : C.bodies ≡ K.bodies) where
   abbrev T : Table
   T = table_of K
@@ -130,7 +140,7 @@ module _ (K C : Kernel) (same_interface : C.interface ≡ K.interface) (same_bod
     pub first : Placed f n m ls p
     pub second : Placed f (n + local_count p) (m + async_count p) ls q
 
-  parted : (f : ℕ → ℕ) (n m : ℕ) (ls : List ℕ) (p q : Statement) → ((t : ℕ) → IsInScope K ls t → f t < n)
+  pub parted : (f : ℕ → ℕ) (n m : ℕ) (ls : List ℕ) (p q : Statement) → ((t : ℕ) → IsInScope K ls t → f t < n)
       → Holds C.signals n (items_at K.signals (copied_locals p ++ copied_locals q))
       → Holds C.sites m (copied_sites K.sites f n p ++ copied_sites K.sites f (n + local_count p) q)
       → LiesWithin (length K.signals) (length K.sites) p → LiesWithin (length K.signals) (length K.sites) q
@@ -150,11 +160,11 @@ module _ (K C : Kernel) (same_interface : C.interface ≡ K.interface) (same_bod
       }
 
   module _ (f : ℕ → ℕ) (ls : List ℕ) (E F : Env) (sees : SeesTheSame K f ls E F) where
-    test_same : (e : Expression) → AllByRecursion (IsInScope K ls) (signals_read e)
+    pub test_same : (e : Expression) → AllByRecursion (IsInScope K ls) (signals_read e)
         → eval_of (renamed f e) F [] ≡ eval_of e E []
     test_same e u = same_value f E F e [] (all_map (IsInScope K ls) (λ t. F (f t) ≡ E t) sees (signals_read e) u)
 
-    emitted_same : (e : Option Expression) → AllByRecursion (IsInScope K ls) (optional_signals e)
+    pub emitted_same : (e : Option Expression) → AllByRecursion (IsInScope K ls) (optional_signals e)
         → emitted (option_map (renamed f) e) F ≡ emitted e E
     emitted_same None u = refl
     emitted_same (Some e) u = test_same e u
@@ -168,7 +178,7 @@ module _ (K C : Kernel) (same_interface : C.interface ≡ K.interface) (same_bod
       (((u.0, refl, refl)), tt)
 
   -- the signal that carries the answers of a site
-  target_of : (f : ℕ → ℕ) (n m : ℕ) (ls : List ℕ) (a : ℕ) → Placed f n m ls (Async a)
+  pub target_of : (f : ℕ → ℕ) (n m : ℕ) (ls : List ℕ) (a : ℕ) → Placed f n m ls (Async a)
       → (U.target m ≡ option_map f (T.target a)) × AllByRecursion (IsInScope K ls) (signal_list (T.target a))
   target_of f n m ls a h =
       let t = got K.sites a h.within in
@@ -184,7 +194,7 @@ module _ (K C : Kernel) (same_interface : C.interface ≡ K.interface) (same_bod
     pub body : Placed (with_number s n f) (suc n) m (s ∷ ls) p
     pub declared : slice_get C.signals n ≡ slice_get K.signals s
 
-  inner : (f : ℕ → ℕ) (n m : ℕ) (ls : List ℕ) (s : ℕ) (p : Statement) → Placed f n m ls (Local s p) → Inner f n m ls s p
+  pub inner : (f : ℕ → ℕ) (n m : ℕ) (ls : List ℕ) (s : ℕ) (p : Statement) → Placed f n m ls (Local s p) → Inner f n m ls s p
   inner f n m ls s p h =
       let d = got K.signals s h.within.0 in
       let these : Holds C.signals n (d.0 ∷ items_at K.signals (copied_locals p))
@@ -200,15 +210,6 @@ module _ (K C : Kernel) (same_interface : C.interface ≡ K.interface) (same_bod
           at : (b : Bool) → eqb t s ≡ b → cond b n (f t) < suc n
           at true x = omega arith
           at false x = let l = h.low t (outside K f ls s n h.low t x i) in omega (arith, l)
-
-  abbrev kind_of : Option SignalDecl → Kind
-  kind_of o = (elim o [ Some d ↦ d.kind | None ↦ kind.Pure ])
-
-  abbrev word_of : Option SignalDecl → Option CombineWord
-  word_of o = (elim o [ Some d ↦ d.combine | None ↦ None ])
-
-  abbrev first_of : Option SignalDecl → Value
-  first_of o = (elim o [ Some d ↦ d.first | None ↦ value.Unit ])
 
   pub start : (p : Statement) (f : ℕ → ℕ) (n m : ℕ) (ls : List ℕ) → Placed f n m ls p → (i : Index) (E F : Env)
       → SeesTheSame K f ls E F → DoesTheSame K f ls (must_can T p Start i E) (must_can U (copy f n m p) Start i F)

@@ -2,3 +2,6 @@ pub mod Evaluating
 pub mod Alike
 pub mod Doing
 pub mod Whole
+pub mod Sequences
+pub mod Steps
+pub mod Stepping

@@ -1,0 +1,4 @@
+//! Laws of the reactions of copied programs.
+#![tactic(auto)]
+
+pub mod laws;
