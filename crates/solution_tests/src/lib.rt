@@ -1,0 +1,5 @@
+//! Tests of the equations of gates, by tables.
+#![tactic(auto)]
+
+#[cfg(test)]
+mod gates;
