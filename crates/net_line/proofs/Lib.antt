@@ -1,0 +1,14 @@
+pub mod Numbers
+pub mod Chain
+pub mod Parts
+pub mod Loops
+pub mod Gates
+pub mod Literals
+pub mod Words
+pub mod Nodes
+pub mod Expressions
+pub mod Trees
+pub mod Placed
+pub mod Signals
+pub mod Sections
+pub mod Taking

@@ -1,0 +1,10 @@
+pub mod Reading
+pub mod Decoding
+pub mod Literals
+pub mod GateReading
+pub mod SignalReading
+pub mod ExpressionReading
+pub mod Formed
+pub mod ExpressionForm
+pub mod ExpressionTaken
+pub mod Taken
