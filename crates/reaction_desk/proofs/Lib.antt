@@ -1,0 +1,4 @@
+pub mod LegalLogs
+pub mod DeskLaws
+pub mod Finals
+pub mod Opens
