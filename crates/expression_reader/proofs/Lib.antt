@@ -7,3 +7,4 @@ pub mod Ranks
 pub mod Closings
 pub mod written
 pub mod QuotedWords
+pub mod Words

@@ -1,7 +1,8 @@
 -- A bridge from the code to the grammar, and no part of a promise of `read` but one (`by_rule`): what each
 -- reading function does, rule by rule of Rules. It chooses by the next token, within the limits, and the laws
 -- of proofs/ say that it reads what its rule says, or refuses it with the first fault. This project's own.
-use Rattle.std.specs.Prelude.{◌≡◌, ◌<◌, length, Ok, ℕ, zero, suc, ◌||◌, pos, Bool, true, false, List, [], ◌∷◌, Option, Some, None}
+use Rattle.std.specs.Prelude.{◌≡◌, ◌<◌, length, Ok, ℕ, zero, suc, ◌||◌, pos, Bool, true, false, List, [], ◌∷◌}
+use Rattle.std.specs.Prelude.{Option, Some, None}
 use Rattle.hh_base.specs.declared.keyword.Keyword.{Keyword}
 use Rattle.hh_base.specs.declared.keyword.Keyword.TheVariants as word
 use Rattle.module_token.specs.declared.punct.Punct.{Punct}
@@ -26,7 +27,8 @@ use Rattle.expression_reader.specs.declared.operator.Access.{Access}
 use Rattle.expression_reader.specs.declared.operator.Access.TheVariants as reading
 use Rattle.grammar.specs.Tokens.{is}
 use Rattle.expression_reader.specs.Terminals.{symbols, is_name, is_punct, is_in_round}
-use Rattle.expression_reader.specs.Trees.{Name, TextAt, name_at, node, expr_at, accessed, Term, Branches, chained, compared, chosen}
+use Rattle.expression_reader.specs.Trees.{Name, TextAt, name_at, node, expr_at, accessed, Term, Branches}
+use Rattle.expression_reader.specs.Trees.{chained, compared, chosen}
 use Rattle.expression_reader.specs.Rules.{is_quoted, is_number, largest}
 
 abbrev pub Parser : Type 0 → Type 0

@@ -23,7 +23,8 @@ use Rattle.expression_reader.specs.declared.operator.Operator.TheVariants as sig
 use Rattle.expression_reader.specs.declared.operator.Access.{Access}
 use Rattle.expression_reader.specs.declared.operator.Access.TheVariants as reading
 use Rattle.expression_reader.specs.Terminals.{is_name}
-use Rattle.expression_reader.specs.Trees.{Name, TextAt, name_at, node, expr_at, accessed, Term, Branches, chained, compared, chosen}
+use Rattle.expression_reader.specs.Trees.{Name, TextAt, name_at, node, expr_at, accessed, Term, Branches}
+use Rattle.expression_reader.specs.Trees.{chained, compared, chosen}
 
 abbrev pub Lang : Type 0 → Type 1
 Lang A = language.Lang Terminal A

@@ -1,6 +1,7 @@
 -- The terminal symbols of the grammar: what a token is to it, which may be names, which are brackets, and the
 -- limits. This project's own.
-use Rattle.std.specs.Prelude.{◌≡◌, ℕ, ◌+◌, Bool, true, false, not, List, [], ◌∷◌, Some, refl, codes, if◌then◌else◌}
+use Rattle.std.specs.Prelude.{◌≡◌, ℕ, ◌+◌, Bool, true, false, not, List, [], ◌∷◌, Some, refl, codes}
+use Rattle.std.specs.Prelude.{if◌then◌else◌}
 use Rattle.std.specs.Str.{bytes_eq}
 use Rattle.host_expr.specs.declared.expr.TheConstants.{EXPRESSION_LIMIT}
 use Rattle.module_tree.specs.declared.limits.TheConstants.{OPEN_LIMIT}

@@ -8,7 +8,8 @@ ghost use Rattle.expression_reader.specs.Cursor.{IsReadable, Shows, toks};
 ghost use Rattle.expression_reader.specs.Reference as rule;
 ghost use Rattle.expression_reader.specs.Refusals.{as_refusal};
 ghost use Rattle.expression_reader.specs.Rules.{is_number, is_quoted, largest};
-ghost use Rattle.expression_reader.specs.Terminals.{symbols, is_name, is_keyword, is_punct, is_in_round, is_in_curly};
+ghost use Rattle.expression_reader.specs.Terminals.{symbols, is_name, is_keyword, is_punct, is_in_round};
+ghost use Rattle.expression_reader.specs.Terminals.{is_in_curly};
 
 use crate::fault::StepError;
 use crate::terminal::Terminal;
@@ -167,8 +168,8 @@ impl<'a> Reader<'a> {
         self.take(Terminal::Punct(punct))
     }
 
-    /// Takes this bracket, where so many may still be opened. Gives its place, and how many may be opened behind
-    /// it.
+    /// Takes this bracket, where so many may still be opened. Gives its place, and how many may be opened
+    /// behind it.
     #[tactic(auto, unfolding(grammar::specs::Parser::opening, grammar::specs::Parser::too_deep))]
     pub fn open(&mut self, bracket: Punct, room: u8) -> Result<(u32, u8), StepError>
         ensures reads { Reads as_refusal

@@ -152,10 +152,63 @@ fn keyword_among(keywords: &[Keyword], word: &str) -> Option<Keyword>
     }
 }
 
+// The keywords by their length, so that a word is compared with few.
+const TWO_LETTERS: [Keyword; 3] = [Keyword::In, Keyword::If, Keyword::Do];
+
+const THREE_LETTERS: [Keyword; 4] = [Keyword::Out, Keyword::Par, Keyword::Run, Keyword::Int];
+
+const FOUR_LETTERS: [Keyword; 14] = [
+    Keyword::Body,
+    Keyword::Host,
+    Keyword::Halt,
+    Keyword::Emit,
+    Keyword::Else,
+    Keyword::Loop,
+    Keyword::Fork,
+    Keyword::Trap,
+    Keyword::Call,
+    Keyword::Kill,
+    Keyword::Pure,
+    Keyword::Bool,
+    Keyword::Text,
+    Keyword::True,
+];
+
+const FIVE_LETTERS: [Keyword; 9] = [
+    Keyword::Inout,
+    Keyword::Pause,
+    Keyword::Await,
+    Keyword::Every,
+    Keyword::Abort,
+    Keyword::Count,
+    Keyword::Break,
+    Keyword::Async,
+    Keyword::False,
+];
+
+const SIX_LETTERS: [Keyword; 3] = [Keyword::Module, Keyword::Signal, Keyword::Resume];
+
+const SEVEN_LETTERS: [Keyword; 4] = [
+    Keyword::Nothing,
+    Keyword::Sustain,
+    Keyword::Suspend,
+    Keyword::Combine,
+];
+
+const NINE_LETTERS: [Keyword; 2] = [Keyword::WeakAbort, Keyword::Immediate];
+
 /// The keyword that the word is, byte for byte; None where it is no keyword.
-#[tactic(auto, unfolding(crate::specs::Keyword::keyword_of))]
 pub fn keyword_of(word: &str) -> Option<Keyword>
     ensures { result ≡ keyword_of word.now }
 {
-    keyword_among(&KEYWORDS, word)
+    match word.len() {
+        2 => keyword_among(&TWO_LETTERS, word),
+        3 => keyword_among(&THREE_LETTERS, word),
+        4 => keyword_among(&FOUR_LETTERS, word),
+        5 => keyword_among(&FIVE_LETTERS, word),
+        6 => keyword_among(&SIX_LETTERS, word),
+        7 => keyword_among(&SEVEN_LETTERS, word),
+        9 => keyword_among(&NINE_LETTERS, word),
+        _ => None,
+    }
 }
