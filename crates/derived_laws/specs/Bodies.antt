@@ -20,7 +20,8 @@ use Rattle.hh_term.specs.Step.{step}
 use Rattle.hh_term.specs.Placed.{unplaced}
 use Rattle.kernel_expand.specs.Interpretation.{of_block}
 use Rattle.kernel_expand.specs.Modules.{of_module}
-use Rattle.kernel_expand.specs.Numbering.{Piece, Around, Numbered, numbering, number_of, in_numbers, with_signal}
+use Rattle.kernel_expand.specs.Numbering.{Piece, Around, Numbered, numbering, number_of, in_numbers}
+use Rattle.kernel_expand.specs.Numbering.{with_signal}
 use Rattle.kernel_expand.specs.Numbering.{counter_signal, traps_between}
 use Rattle.kernel_expand.specs.Expansion.{no_module}
 use Rattle.derived_laws.specs.Naming.{Naming, naming, nothing_named, expression_names}
@@ -52,9 +53,9 @@ block_naming modules deep = of_block (naming (of_module naming nothing_named mod
 abbrev pub Opened : List TrapName → Around → Type 0
 Opened ts a = AllByRecursion (λ (t : TrapName). traps_between t.place a.traps < length a.traps) ts
 
--- Where a test names only signals that are declared before it, a block leaves their numbers as they are, and the
--- counter of a row is its own. A statement without an exit to the trap round it does not leave that trap. Tests and
--- blocks of a linked text are so.
+-- Where a test names only signals that are declared before it, a block leaves their numbers as they are, and
+-- the counter of a row is its own. A statement without an exit to the trap round it does not leave that trap.
+-- Tests and blocks of a linked text are so.
 pub record BodiesObey : Type 0 where
   pub stands : (modules : List (ModuleNode ℕ)) (deep : ℕ) (b : BlockNode ℕ) (d : Expr ℕ) (a : Around)
       (n : Numbered) → expression_names (length n.places) d ≡ true → StandsIn (block_piece modules deep b) d a n

@@ -1,5 +1,5 @@
--- `abort` with a count. (HipHop.js, Berry and Serrano, PLDI 2020; strong preemption is that of Berry, The Esterel
--- v5 Language Primer.)
+-- `abort` with a count. (HipHop.js, Berry and Serrano, PLDI 2020; strong preemption is that of Berry, The
+-- Esterel v5 Language Primer.)
 use Rattle.std.specs.Prelude.{◌≡◌, ℕ, false, Option, Some, None, List, [], ◌∷◌, length, option_map}
 use Rattle.hh_base.specs.declared.value.Pos.{Pos}
 use Rattle.hh_base.specs.declared.value.Value.TheVariants as value
@@ -56,13 +56,16 @@ pub record AbortCountObeys : Type 0 where
       → Unread c (expression_of d) → Unmentioned T c p → IsOwn T c d p
   pub at_start : (T : Table) (E : Env) (c n : ℕ) (d : Expr ℕ) (p : Statement) (w : Selection)
       (ws : List Selection) → IsOwn T c d p → turns n ≡ w ∷ ws →
-      step T (row.abort_count (kernel c) n d p) Start E ≡ option_map (inside (counting_down w)) (step T p Start E)
-  pub later : (T : Table) (E : Env) (c n : ℕ) (d : Expr ℕ) (p : Statement) (w : Selection) (rest : List Selection)
+      step T (row.abort_count (kernel c) n d p) Start E ≡
+      option_map (inside (counting_down w)) (step T p Start E)
+  pub later : (T : Table) (E : Env) (c n : ℕ) (d : Expr ℕ) (p : Statement) (w : Selection)
+      (rest : List Selection)
       (m : Selection) → IsOwn T c d p → Turn (turns n) w rest →
       step T (row.abort_count (kernel c) n d p) (Resume (counting_down w m)) E
       ≡ by_test (test d E) (counted_down rest (killed p m) (step T p (Resume m) E))
       (option_map (λ a. then_fault (test d E) (inside (counting_down w) a)) (step T p (Resume m) E))
-  pub marks : (T : Table) (c n : ℕ) (d : Expr ℕ) (p : Statement) (w : Selection) (ws : List Selection) (m : Selection)
+  pub marks : (T : Table) (c n : ℕ) (d : Expr ℕ) (p : Statement) (w : Selection)
+      (ws : List Selection) (m : Selection)
       → IsOwn T c d p → turns n ≡ w ∷ ws → RestsAt T (row.abort_count (kernel c) n d p) m
       → CountRests counting_down (turns n) T p m
   pub expands : (modules : ℕ → Piece) (pos : Pos) (i : ℕ) (d : Expr ℕ) (p : Piece) (a : Around) (n : Numbered)

@@ -1,5 +1,5 @@
--- `do .. every` and `every` with a count: their body starts anew each n-th time that the test holds. (HipHop.js,
--- Berry and Serrano, PLDI 2020.)
+-- `do .. every` and `every` with a count: their body starts anew each n-th time that the test holds.
+-- (HipHop.js, Berry and Serrano, PLDI 2020.)
 use Rattle.std.specs.Prelude.{◌≡◌, ℕ, Option, Some, List, [], ◌∷◌, length, option_map}
 use Rattle.hh_base.specs.declared.value.Pos.{Pos}
 use Rattle.host_expr.specs.declared.cell.Cell.{Cell}
@@ -45,7 +45,8 @@ abbrev pub counted_first : (Selection → Selection → Selection) → Selection
 counted_first f first [] p = begins (f first) p
 counted_first f first (w ∷ ws) p = Some (rests (First w) [])
 
-pub data CountRenewRests (f : Selection → Selection → Selection) (ws : List Selection) (T : Table) (p : Statement)
+pub data CountRenewRests (f : Selection → Selection → Selection) (ws : List Selection)
+    (T : Table) (p : Statement)
     : Selection → Type 0 where
   runs : (w : Selection) (rest : List Selection) (m : Selection) → Turn ws w rest → RestsAt T p m
       → CountRenewRests f ws T p (f w (First m))
@@ -94,7 +95,8 @@ pub record EveryCountObeys : Type 0 where
       (ws rest : List Selection) (m : Selection) → IsOwn T c d p → turns n ≡ first ∷ ws → Turn (turns n) w rest
       → StaysIn (step T p (Resume m) E) →
       step T (row.every_count (kernel c) n d p) (Resume (repeating_down w (First m))) E
-      ≡ renews_counted repeating_down (test d E) first w rest (killed p m) (halts_behind (step T p (Resume m) E))
+      ≡ renews_counted repeating_down (test d E) first w rest (killed p m)
+      (halts_behind (step T p (Resume m) E))
       (halts_behind (step T p Start E))
   pub when_idle : (T : Table) (E : Env) (c n : ℕ) (d : Expr ℕ) (p : Statement) (first w : Selection)
       (ws rest : List Selection) → IsOwn T c d p → turns n ≡ first ∷ ws → Turn (turns n) w rest →

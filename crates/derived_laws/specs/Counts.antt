@@ -1,5 +1,5 @@
--- `count` in `await` and in `weakabort`: the test has to hold so many times. (HipHop.js, Berry and Serrano, PLDI
--- 2020.)
+-- `count` in `await` and in `weakabort`: the test has to hold so many times. (HipHop.js, Berry and Serrano,
+-- PLDI 2020.)
 use Rattle.std.specs.Prelude.{◌≡◌, ℕ, Option, Some, List, [], ◌∷◌, ◌++◌, map, length, replicate, option_map}
 use Rattle.hh_base.specs.declared.value.Pos.{Pos}
 use Rattle.host_expr.specs.declared.expr.Expr.{Expr}

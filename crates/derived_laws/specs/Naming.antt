@@ -1,5 +1,5 @@
--- Whether a statement names only what is there: signals of its module that are declared before it, and a counter
--- that stands round it. (Block structure, as in Algol 60.)
+-- Whether a statement names only what is there: signals of its module that are declared before it, and a
+-- counter that stands round it. (Block structure, as in Algol 60.)
 use Rattle.std.specs.Prelude.{ℕ, ◌+◌, Bool, true, false, ◌&&◌, nat_lt, Option, Some, None, List, length}
 use Rattle.std.specs.List.{list_all}
 use Rattle.host_expr.specs.declared.expr.Expr.{Expr}

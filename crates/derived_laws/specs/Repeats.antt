@@ -83,7 +83,8 @@ pub record EveryObeys : Type 0 where
       → step T (row.every plain d p) Start E ≡ Some (rests (First awaiting) [])
   pub before : (T : Table) (E : Env) (d : Expr ℕ) (p : Statement) →
       step T (row.every plain d p) (Resume (First awaiting)) E
-      ≡ on_test (test d E) (begins repeating (halts_behind (step T p Start E))) (Some (rests (First awaiting) []))
+      ≡ on_test (test d E) (begins repeating (halts_behind (step T p Start E)))
+      (Some (rests (First awaiting) []))
   pub later : (T : Table) (E : Env) (d : Expr ℕ) (p : Statement) (m : Selection)
       → StaysIn (step T p (Resume m) E) →
       step T (row.every plain d p) (Resume (repeating (First m))) E

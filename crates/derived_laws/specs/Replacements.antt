@@ -1,6 +1,6 @@
--- A statement with its signals and its asyncs' sites replaced, and what is then said of what it does. Two signals
--- may be replaced by one. (The renaming of a module's interface by `run`, Berry, The Esterel v5 Language Primer;
--- values and sites are this project's own.)
+-- A statement with its signals and its asyncs' sites replaced, and what is then said of what it does. Two
+-- signals may be replaced by one. (The renaming of a module's interface by `run`, Berry, The Esterel v5
+-- Language Primer; values and sites are this project's own.)
 use Rattle.std.specs.Prelude.{◌≡◌, ℕ, ◌==◌, map, option_map}
 use Rattle.host_expr.specs.Expression.{Expression, Now, Pre, NowVal, PreVal, Not, Neg, Arith, Compare, And, Or}
 use Rattle.host_expr.specs.Expression.{Choose}

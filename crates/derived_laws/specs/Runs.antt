@@ -68,7 +68,8 @@ as_program c = of_module numbering no_module c.modules c.deep c.callee no_traps 
 abbrev pub bound : Call → List ℕ
 bound c = map (λ (b : Binding ℕ). number_of c.before b.right.name) c.bindings
 
--- for a signal of the interface that which is bound to it; those that the callee declares come behind the caller's
+-- for a signal of the interface that which is bound to it; those that the callee declares come behind the
+-- caller's
 abbrev pub signal_for : Call → ℕ → ℕ
 signal_for c s =
     (elim (slice_get (bound c) s) [
@@ -96,10 +97,11 @@ pub record Programs (c : Call) (K K' : Kernel) : Type 0 where
   pub caller : Begins K' (expanded c).1
   pub bodies : K'.bodies ≡ K.bodies
 
--- the callee reacts, each signal of its interface being the signal that is bound to it; and the runs of a linked text
--- bind all
+-- the callee reacts, each signal of its interface being the signal that is bound to it; and the runs of a
+-- linked text bind all
 pub record RunObeys : Type 0 where
-  pub binds : (parts : List (Part ℕ)) → IsLinked parts → (m : ModuleNode ℕ) (scope : InScope) (callee : NameAt ℕ)
+  pub binds : (parts : List (Part ℕ)) → IsLinked parts →
+      (m : ModuleNode ℕ) (scope : InScope) (callee : NameAt ℕ)
       (c : Call) → c.modules ≡ modules_of parts → c.callee ≡ callee.name
       → is_in_scope (known_in parts m) (record { scope = scope; part = part.Call callee c.bindings }) ≡ true
       → binds_interface (known_in parts m) (part.Call callee c.bindings) ≡ true

@@ -81,4 +81,5 @@ pub record AwaitImmediateObeys : Type 0 where
   pub marks : (T : Table) (d : Expr ℕ) (m : Selection)
       → RestsAt T (row.await_immediate plain d) m → m ≡ awaiting_now
   pub expands : (modules : ℕ → Piece) (pos : Pos) (d : Expr ℕ) (a : Around) (n : Numbered) →
-      unplaced (row.await_immediate (numbering modules pos) d a n).0 ≡ row.await_immediate plain (in_numbers n d)
+      unplaced (row.await_immediate (numbering modules pos) d a n).0 ≡
+      row.await_immediate plain (in_numbers n d)

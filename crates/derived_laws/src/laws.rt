@@ -60,8 +60,8 @@ pub fn suspend_immediate_rule()
     ensures { SuspendImmediateObeys }
 {}
 
-/// `do p every d` starts p; later, where d holds, what runs of p is killed and p starts anew, and else p reacts.
-/// It does not end.
+/// `do p every d` starts p; later, where d holds, what runs of p is killed and p starts anew, and else p
+/// reacts. It does not end.
 pub fn do_every_rule()
     ensures { DoEveryObeys }
 {}
@@ -83,7 +83,8 @@ pub fn await_count_rule()
     ensures { AwaitCountObeys }
 {}
 
-/// `weakabort count (n, d) p` starts p; later p reacts, for the last time in the n-th reaction in which d holds.
+/// `weakabort count (n, d) p` starts p; later p reacts, for the last time in the n-th reaction in which d
+/// holds.
 pub fn weak_abort_count_rule()
     ensures { WeakAbortCountObeys }
 {}
@@ -94,31 +95,32 @@ pub fn abort_count_rule()
     ensures { AbortCountObeys }
 {}
 
-/// `do p every count (n, d)` starts p; later, each n-th time that d holds, what runs of p is killed and p starts anew,
-/// and else p reacts. It does not end.
+/// `do p every count (n, d)` starts p; later, each n-th time that d holds, what runs of p is killed and p
+/// starts anew, and else p reacts. It does not end.
 pub fn do_every_count_rule()
     ensures { DoEveryCountObeys }
 {}
 
-/// `every count (n, d) p` does not start p when it is started; later p starts the n-th time that d holds, and from
-/// then on it is `do p every count (n, d)`.
+/// `every count (n, d) p` does not start p when it is started; later p starts the n-th time that d holds, and
+/// from then on it is `do p every count (n, d)`.
 pub fn every_count_rule()
     ensures { EveryCountObeys }
 {}
 
-/// A statement with its signals and sites replaced does what the statement does in the environment in which each
-/// signal has the status and the value of that in its place.
+/// A statement with its signals and sites replaced does what the statement does in the environment in which
+/// each signal has the status and the value of that in its place.
 pub fn replaced_signals_rule()
     ensures { ReplacedObeys }
 {}
 
-/// `run m(..)` is the body of m in which each signal of m's interface is the caller's signal that is bound to it.
+/// `run m(..)` is the body of m in which each signal of m's interface is the caller's signal that is bound to
+/// it.
 pub fn run_rule()
     ensures { RunObeys }
 {}
 
-/// The bodies of a linked text are as the other rules ask: they leave the numbers of the test's signals as they are,
-/// do not mention the row's counter, and have no exit to its trap.
+/// The bodies of a linked text are as the other rules ask: they leave the numbers of the test's signals as
+/// they are, do not mention the row's counter, and have no exit to its trap.
 pub fn bodies_rule()
     ensures { BodiesObey }
 {}

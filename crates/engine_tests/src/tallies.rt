@@ -33,8 +33,8 @@ fn two(
     }
 }
 
-/// Whether a signal with this tally, whose value was 7, has this status, and this number as its value, if that is
-/// known.
+/// Whether a signal with this tally, whose value was 7, has this status, and this number as its value, if
+/// that is known.
 fn is_solved(alloc: Global, tally: Tally, status: Tri, value: Option<i64>) -> bool {
     let known = tally.solved(alloc, Kind::Int, Value::Int(7));
     known.status == status && is_number(&known.value, value)

@@ -1,12 +1,14 @@
--- What an accepted reaction does to the instances, and the effects that are told of it but for the drops. (This project's own, after
--- the notifications of HipHop.js's async.)
-use Rattle.std.specs.Prelude.{ℕ, suc, ◌+◌, Bool, false, not, is_some, ◌&&◌, ◌||◌, if◌then◌else◌, Option, Some, None, option_map, List, [], ◌∷◌, ◌++◌, length, map, drop, slice_get}
+-- What an accepted reaction does to the instances, and the effects that are told of it but for the drops.
+-- (This project's own, after the notifications of HipHop.js's async.)
+use Rattle.std.specs.Prelude.{ℕ, suc, ◌+◌, Bool, false, not, is_some, ◌&&◌, ◌||◌, if◌then◌else◌, Option, Some}
+use Rattle.std.specs.Prelude.{None, option_map, List, [], ◌∷◌, ◌++◌, length, map, drop, slice_get}
 use Rattle.std.specs.List.{filter_map}
 use Rattle.hh_base.specs.declared.value.Value.{Value}
 use Rattle.exec_instance.specs.declared.instance.Instance.{Instance}
 use Rattle.exec_instance.specs.declared.change.Change.{Change}
 use Rattle.exec_instance.specs.declared.effect.Effect.{Effect}
-use Rattle.exec_instance.specs.declared.effect.Effect.TheVariants.{More, Ended, Killed, Suspended, Resumed, Started}
+use Rattle.exec_instance.specs.declared.effect.Effect.TheVariants.{More, Ended, Killed, Suspended, Resumed}
+use Rattle.exec_instance.specs.declared.effect.Effect.TheVariants.{Started}
 use Rattle.exec_instance.specs.declared.table.Row.{Row}
 use Rattle.exec_instance.specs.declared.table.Row.TheVariants as row
 use Rattle.exec_instance.specs.Changes.{change_of}
@@ -46,7 +48,13 @@ abbrev pub born : ℕ → List Change → List Instance
 born last [] = []
 born last (c ∷ cs) =
     (elim (new_args c) [
-      | Some args ↦ record { id = suc last; body = c.body; args = args; queue = []; suspended = false } ∷ born (suc last) cs
+      | Some args ↦ record {
+        id = suc last;
+        body = c.body;
+        args = args;
+        queue = [];
+        suspended = false;
+      } ∷ born (suc last) cs
       | None ↦ born last cs
     ])
 
@@ -59,15 +67,20 @@ started i = Started i.id i.body i.args
 -- the effects on the instances that ran before, in the order of the table, and then those of the new ones
 abbrev pub old_effects : (ℕ → Option Change) → List Instance → List Effect
 old_effects change running =
-    row_of row.More change running ++ row_of row.Ended change running ++ row_of row.Killed change running ++ row_of row.Suspended change running ++ row_of row.Resumed change running
+    row_of row.More change running ++ row_of row.Ended change running ++
+    row_of row.Killed change running ++ row_of row.Suspended change running ++
+    row_of row.Resumed change running
 
 abbrev pub effects : ℕ → List Change → List Instance → List Effect
 effects last changes running = old_effects (change_of changes) running ++ map started (born last changes)
 
--- a running instance after the reaction, if it runs on: one that used an answer has lost it, one that was held is marked suspended,
--- and one that was resumed is not. One that no change speaks of stays as it was
+-- a running instance after the reaction, if it runs on: one that used an answer has lost it, one that was
+-- held is marked suspended, and one that was resumed is not. One that no change speaks of stays as it was
 abbrev pub changed : Instance → Change → Instance
-changed i c = record i { queue = if c.used then drop 1 i.queue else i.queue; suspended = c.held || (i.suspended && not c.resumed) }
+changed i c = record i {
+  queue = if c.used then drop 1 i.queue else i.queue;
+  suspended = c.held || (i.suspended && not c.resumed);
+}
 
 abbrev pub after_change : Instance → Option Change → Option Instance
 after_change i (Some c) = if not c.ended && c.runs_after then Some (changed i c) else None

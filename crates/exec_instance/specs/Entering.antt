@@ -1,6 +1,7 @@
--- The rule by which answers enter the running instances: they are tried in order, and each gets its verdict against what the ones
--- before it left. (This project's own, after the answers of HipHop.js's async.)
-use Rattle.std.specs.Prelude.{ℕ, Bool, false, ◌&&◌, ◌||◌, ◌==◌, nat_lt, nat_le, if◌then◌else◌, Option, Some, None, List, [], ◌∷◌, ◌++◌, map, slice_get}
+-- The rule by which answers enter the running instances: they are tried in order, and each gets its verdict
+-- against what the ones before it left. (This project's own, after the answers of HipHop.js's async.)
+use Rattle.std.specs.Prelude.{ℕ, Bool, false, ◌&&◌, ◌||◌, ◌==◌, nat_lt, nat_le, if◌then◌else◌, Option, Some}
+use Rattle.std.specs.Prelude.{None, List, [], ◌∷◌, ◌++◌, map, slice_get}
 use Rattle.hh_base.specs.declared.value.Kind.{Kind}
 use Rattle.hh_base.specs.declared.item.Item.{Item}
 use Rattle.hh_base.specs.Queue.{ends_with_last}
@@ -14,8 +15,8 @@ use Rattle.exec_instance.specs.declared.effect.Reason.TheVariants.{Stale, Unknow
 use Rattle.exec_instance.specs.Kinds.{same_kind}
 use Rattle.exec_instance.specs.Running.{holder}
 
--- what the verdicts depend on beside the instances: the kinds that the bodies answer, whether the machine takes partial answers,
--- and the last id that was given
+-- what the verdicts depend on beside the instances: the kinds that the bodies answer, whether the machine
+-- takes partial answers, and the last id that was given
 pub record Rules : Type 0 where
   pub kinds : List Kind
   pub parts : Bool
@@ -44,7 +45,8 @@ is_well_typed r i a = answers_kind (slice_get r.kinds i.body) a && (a.last || r.
 -- the verdict on an answer, by the instance that has its id
 abbrev pub verdict_at : Rules → Option Instance → Answer → Verdict
 verdict_at r None a = Drops Stale
-verdict_at r (Some i) a = if ends_with_last i.queue then Drops Repeated else if is_well_typed r i a then Enters else Drops Mistyped
+verdict_at r (Some i) a =
+    if ends_with_last i.queue then Drops Repeated else if is_well_typed r i a then Enters else Drops Mistyped
 
 abbrev pub verdict : Rules → List Instance → Answer → Verdict
 verdict r running a = if was_given r.last a.id then verdict_at r (holder running a.id) a else Drops Unknown
@@ -77,4 +79,5 @@ dropped (Drops reason) a = Dropped a.id reason ∷ []
 
 abbrev pub drops : Rules → List Instance → List Answer → List Effect
 drops r running [] = []
-drops r running (a ∷ rest) = dropped (verdict r running a) a ++ drops r (after (verdict r running a) a running) rest
+drops r running (a ∷ rest) =
+    dropped (verdict r running a) a ++ drops r (after (verdict r running a) a running) rest

@@ -2,7 +2,8 @@
 use Rattle.std.specs.Prelude.{◌≡◌, ◌≤◌, ℕ, Some, None, List, [], codes, pos, true, false}
 use Rattle.std.specs.Str.Parse.{IsNumeral, digits_value, without_leading_plus}
 use Rattle.clap.specs.Facts.{least_values}
-use Rattle.clap.specs.Words.{IsPlainArg, IsSignedIn, Text, fault_of, found_of, matches_of, one_text, rows_of, without_minus}
+use Rattle.clap.specs.Words.{IsPlainArg, IsSignedIn, Text, fault_of, found_of, matches_of, one_text, rows_of}
+use Rattle.clap.specs.Words.{without_minus}
 use Rattle.clap.specs.declared.builder.arg.Arg.{Arg}
 use Rattle.clap.specs.declared.builder.action.ArgAction.TheVariants.{Set}
 use Rattle.clap.specs.declared.builder.value_parser.ValueParser.TheVariants.{Signed}

@@ -1,4 +1,5 @@
--- The words of `gen`, by clap's own meaning of a simple command: two options that have to be given, each with a number in a range.
+-- The words of `gen`, by clap's own meaning of a simple command: two options that have to be given, each with
+-- a number in a range.
 use Rattle.std.specs.Prelude.{◌≡◌, ℕ, Some, List, [], codes, pos, true}
 use Rattle.std.specs.Str.Parse.{IsNumeral, digits_value, without_leading_plus}
 use Rattle.clap.specs.Words.{App, Rule, Text, fault_of, matches_of, new_app, new_rule, one_of, with_rule}
@@ -17,7 +18,8 @@ numbered name least most = record (new_rule name) {
 -- the command, which passes over the first word as the program's name
 abbrev pub command : App
 command =
-    with_rule (with_rule (new_app (codes "gen")) (numbered (codes "seed") 0 4294967295)) (numbered (codes "size") 1 1000)
+    with_rule (with_rule (new_app (codes "gen")) (numbered (codes "seed") 0 4294967295))
+    (numbered (codes "size") 1 1000)
 
 -- the words give the option of this name this number
 pub record Gives (words : List Text) (name : Text) (number : ℕ) : Type 0 where

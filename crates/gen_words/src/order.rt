@@ -1,6 +1,7 @@
 //! What the words of `gen` ask for, read by `clap`.
 
-ghost use Rattle.std.specs.Prelude.{◌≡◌, ◌≢◌, ◌≤◌, ◌<◌, ◌^◌, ℕ, Some, [], map, length, slice_get, IfOk, IsErrOf, IsSomeAnd};
+ghost use Rattle.std.specs.Prelude.{◌≡◌, ◌≢◌, ◌≤◌, ◌<◌, ◌^◌, ℕ, Some, [], map, length, slice_get, IfOk};
+ghost use Rattle.std.specs.Prelude.{IsErrOf, IsSomeAnd};
 ghost use Rattle.clap.specs.Words.{IsParsedFrom, app_of, fault_of, found_of, kind_of, rule_of};
 ghost use Rattle.clap.specs.declared.error.kind.ErrorKind.TheVariants.{OutOfMemory};
 ghost use Rattle.clap.specs.declared.parser.matches.ArgMatches.{ArgMatches as TheMatches};
@@ -64,7 +65,8 @@ fn order_fault(error: &Error) -> OrderFault
 /// What the command makes of the words.
 fn parse<'a>(alloc: Global, words: &'a [&'a str]) -> Result<ArgMatches<'a>, OrderFault>
     ensures taken { IfOk result (IsParse (map (λ word. word.now) words.entry.now)) }
-    ensures refused { IsErrOf result OrderFault.Refused → fault_of spec.command (map (λ word. word.now) words.entry.now) ≢ [] }
+    ensures refused { IsErrOf result OrderFault.Refused →
+        fault_of spec.command (map (λ word. word.now) words.entry.now) ≢ [] }
 {
     let Ok(command) = command(alloc) else {
         return Err(OrderFault::NoMemory);

@@ -1,5 +1,5 @@
--- What is added of a text, and what is taken of the bytes that are left, where they are told. This project's own, over the words
--- of Rattle's std for readers and writers.
+-- What is added of a text, and what is taken of the bytes that are left, where they are told. This project's
+-- own, over the words of Rattle's std for readers and writers.
 use Rattle.std.specs.Prelude.{ℕ, ◌≤◌, Option, List, length, take}
 use Rattle.std.specs.Io.KnownBytes.{Consumes, Appends}
 

@@ -6,7 +6,8 @@ use Rattle.hh_io.specs.SourceState.{SourceState}
 use Rattle.hh_io.specs.declared.fault.SinkFault.{SinkFault}
 use Rattle.hh_io.specs.declared.fault.SinkFault.TheVariants as sink_fault
 
--- the numbers of the calls that fail, counted from 0, the number of the next call, and how often a call has failed
+-- the numbers of the calls that fail, counted from 0, the number of the next call, and how often a call has
+-- failed
 pub record Calls : Type 0 where
   pub fails : List ℕ
   pub next : ℕ

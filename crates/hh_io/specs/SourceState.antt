@@ -5,7 +5,8 @@ use Rattle.std.specs.Io.KnownBytes.{Consumes, IsAtEnd}
 use Rattle.hh_io.specs.Bytes.{TakesAtMost}
 use Rattle.hh_io.specs.Counts.{one_more}
 
--- the bytes still to come and how often the end was told, where a source tells them, and how often a read has failed
+-- the bytes still to come and how often the end was told, where a source tells them, and how often a read has
+-- failed
 pub record SourceState : Type 0 where
   pub rest : Option (List ℕ)
   pub ends : Option ℕ

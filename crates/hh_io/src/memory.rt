@@ -1,5 +1,6 @@
 //! A source and a sink in memory that fail at given calls.
-ghost use Rattle.std.specs.Prelude.{◌≡◌, ℕ, List, Ok, [], ◌+◌, ◌-◌, ◌<◌, ◌≤◌, ◌↔◌, length, take, IfOk, IfErr, OnErr, IsErr, IsErrOf, Contains, ◌++◌, is_err};
+ghost use Rattle.std.specs.Prelude.{◌≡◌, ℕ, List, Ok, [], ◌+◌, ◌-◌, ◌<◌, ◌≤◌, ◌↔◌, length, take, IfOk, IfErr};
+ghost use Rattle.std.specs.Prelude.{OnErr, IsErr, IsErrOf, Contains, ◌++◌, is_err};
 ghost use Rattle.hh_io.specs.SourceState.{Gives, GivesAll, FailsReading};
 ghost use Rattle.hh_io.specs.SinkState.{Puts, CutsOff};
 ghost use Rattle.hh_io.specs.Memory.{after_call, first_call, is_failed, sink_state, source_state};
@@ -74,9 +75,11 @@ impl Source for MemSource {
     fn read(&mut self, buf: &mut [u8]) -> Result<usize, Failed>
         requires { 0 < length buf.old }
         ensures bound { IfOk result (λ n. n ≤ length buf.new) }
-        ensures given { IfOk result (λ n. 0 < n → Gives (source_state self.old) (source_state self.new) (take n buf.new)) }
+        ensures given { IfOk result (λ n. 0 < n →
+            Gives (source_state self.old) (source_state self.new) (take n buf.new)) }
         ensures ended { result ≡ Ok 0 → GivesAll (source_state self.old) (source_state self.new) [] }
-        ensures failed { OnErr result (FailsReading (source_state self.old) (source_state self.new) (length buf.new)) }
+        ensures failed { OnErr result
+            (FailsReading (source_state self.old) (source_state self.new) (length buf.new)) }
 
         // A call that fails takes nothing.
         ensures listed { IsErr result ↔ Contains self.old.calls.fails self.old.calls.next }

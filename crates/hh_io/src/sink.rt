@@ -41,10 +41,12 @@ pub const WAITING_LIMIT: usize = 65_536;
 /// waiting, so that a program that adds line after line does not make a write for each.
 pub fn put_waiting<K: Sink>(sink: &mut K, waiting: &mut Vec<u8>) -> Result<(), SinkFault>
     // Below the limit the sink is left alone.
-    ensures short { vec_len waiting.old < WAITING_LIMIT → (result ≡ Ok tt) × (waiting.new ≡ waiting.old) × (K.state sink.new ≡ K.state sink.old) }
+    ensures short { vec_len waiting.old < WAITING_LIMIT →
+        (result ≡ Ok tt) × (waiting.new ≡ waiting.old) × (K.state sink.new ≡ K.state sink.old) }
 
     // From the limit on all of the text is written.
-    ensures long { WAITING_LIMIT ≤ vec_len waiting.old → OnOk result (Puts (K.state sink.old) (K.state sink.new) waiting.old.items) }
+    ensures long { WAITING_LIMIT ≤ vec_len waiting.old →
+        OnOk result (Puts (K.state sink.old) (K.state sink.new) waiting.old.items) }
     ensures emptied { WAITING_LIMIT ≤ vec_len waiting.old → OnOk result (waiting.new.items ≡ []) }
     ensures cut_off { IfErr result (CutsOff (K.state sink.old) (K.state sink.new) waiting.old.items) }
 {

@@ -1,5 +1,6 @@
 //! Where bytes come from.
-ghost use Rattle.std.specs.Prelude.{◌≡◌, ℕ, List, [], ◌+◌, ◌-◌, ◌<◌, ◌≤◌, length, take, true, false, Ok, IfOk, OnOk, OnErr, IsErrOf, vec_len, ◌++◌};
+ghost use Rattle.std.specs.Prelude.{◌≡◌, ℕ, List, [], ◌+◌, ◌-◌, ◌<◌, ◌≤◌, length, take, true, false, Ok};
+ghost use Rattle.std.specs.Prelude.{IfOk, OnOk, OnErr, IsErrOf, vec_len, ◌++◌};
 ghost use Rattle.hh_io.specs.SourceState.{SourceState, Gives, GivesAll, GivesCount, GivesAtMost, FailsReading};
 
 use crate::fault::{Failed, ReadEnd};
@@ -75,9 +76,12 @@ pub fn read_all<S: Source>(alloc: Global, source: &mut S, limit: usize) -> Resul
     ensures whole { IfOk result (λ bytes. GivesAll (S.state source.old) (S.state source.new) bytes.items) }
 
     // One byte more than the limit came.
-    ensures too_long { IsErrOf result ReadEnd.TooLong → GivesCount (S.state source.old) (S.state source.new) (limit + 1) }
-    ensures no_memory { IsErrOf result ReadEnd.NoMemory → GivesAtMost (S.state source.old) (S.state source.new) (limit + 1) }
-    ensures failed { IsErrOf result ReadEnd.Fault → FailsReading (S.state source.old) (S.state source.new) (limit + 1) }
+    ensures too_long { IsErrOf result ReadEnd.TooLong →
+        GivesCount (S.state source.old) (S.state source.new) (limit + 1) }
+    ensures no_memory { IsErrOf result ReadEnd.NoMemory →
+        GivesAtMost (S.state source.old) (S.state source.new) (limit + 1) }
+    ensures failed { IsErrOf result ReadEnd.Fault →
+        FailsReading (S.state source.old) (S.state source.new) (limit + 1) }
 {
     let mut bytes = Vec::new(alloc);
     let mut buffer = new_buffer(alloc)?;

@@ -16,7 +16,8 @@ pub struct StdSource<R: Read> {
 impl<R: Read> StdSource<R> {
     /// No read has failed yet.
     pub fn new(reader: R) -> StdSource<R>
-        ensures { ⟦<StdSource<R> as Source>⟧.state result ≡ record { rest = R.remaining reader; ends = None; faults = 0 } }
+        ensures { ⟦<StdSource<R> as Source>⟧.state result ≡
+            record { rest = R.remaining reader; ends = None; faults = 0 } }
     {
         StdSource { reader, faults: 0 }
     }

@@ -1,5 +1,6 @@
 //! A source and a sink in memory that never fail.
-ghost use Rattle.std.specs.Prelude.{◌≡◌, ℕ, List, Some, None, [], ◌+◌, ◌-◌, ◌<◌, ◌≤◌, ◌++◌, length, take, drop, vec_len, IfOk, OnOk, IsErrOf};
+ghost use Rattle.std.specs.Prelude.{◌≡◌, ℕ, List, Some, None, [], ◌+◌, ◌-◌, ◌<◌, ◌≤◌, ◌++◌, length, take};
+ghost use Rattle.std.specs.Prelude.{drop, vec_len, IfOk, OnOk, IsErrOf};
 
 use crate::fault::{Failed, ReadEnd, SinkFault};
 use crate::sink::{Sink, put_all};

@@ -3,7 +3,8 @@
 ghost use Rattle.hh_term.specs.Lawful.{MustExtendsCanShrinks, MustIsWithinCan};
 ghost use Rattle.hh_term.specs.Lawful.{NothingIsSureWherePossible, TwoRoundsStandStill};
 ghost use Rattle.hh_term.specs.Lawful.{TermsAreUnplaced, ProgramsAreUnplaced, StepHasTheBagOfMust};
-ghost use Rattle.hh_term.specs.Lawful.{MustCodeIsTheOnlyCode, StepHasTheCodeOfMust, StartedCodesAreStatic, InterfaceStandsStill};
+ghost use Rattle.hh_term.specs.Lawful.{MustCodeIsTheOnlyCode, StepHasTheCodeOfMust, StartedCodesAreStatic};
+ghost use Rattle.hh_term.specs.Lawful.{InterfaceStandsStill};
 
 /// Where the environment or the index knows more, Must extends and Can shrinks.
 pub fn knows_more()

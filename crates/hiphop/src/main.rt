@@ -1,5 +1,5 @@
-//! The program `hiphop`: its words, standard input and standard output, and the hooks that it is shipped with, given to
-//! the library's call.
+//! The program `hiphop`: its words, standard input and standard output, and the hooks that it is shipped
+//! with, given to the library's call.
 #![tactic(auto)]
 
 ghost use Rattle.std.specs.Prelude.{◌≡◌, IfOk};

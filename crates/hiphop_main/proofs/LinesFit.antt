@@ -1,13 +1,12 @@
 -- The lines of a scenario fit the interface of its program, and are no more than the bytes of its text.
-use Rattle.std.proofs.Common.{◌≡◌, ◌≢◌, ℕ, zero, suc, ◌+◌, ◌<◌, ◌≤◌, Bool, true, false, cond, Option, Some, None, List, [], ◌∷◌}
-use Rattle.std.proofs.Common.{◌++◌, length, take, drop, All, refl, sym, ◌∙◌, ap, subst, arith, inl, inr, ◌==◌, ◌&&◌, slice_get, rules}
+use Rattle.std.proofs.Common.{◌≡◌, ◌≢◌, ℕ, zero, suc, ◌+◌, ◌<◌, ◌≤◌, Bool, true, false, cond, Option, List, [], ◌∷◌}
+use Rattle.std.proofs.Common.{length, take, drop, All, refl, sym, ◌∙◌, ap, subst, arith, inl, inr, ◌==◌, ◌&&◌, slice_get, rules}
 use Rattle.std.specs.List.{AllByRecursion, AllByRecursion-prop, AllPairs, AllZip, slice_index_or}
 use Rattle.std.proofs.Math.Logic.{∥∥₁_elim}
 use Rattle.std.proofs.Math.Bool.{Bool-set}
 use Rattle.hh_base.specs.declared.value.Dir.{Dir}
 use Rattle.hh_base.specs.declared.value.Dir.TheVariants as dir
 use Rattle.hh_base.specs.declared.value.Kind.TheVariants as kind
-use Rattle.hh_base.specs.declared.value.Value.{Value}
 use Rattle.hh_base.specs.declared.value.Value.TheVariants as value
 use Rattle.hh_base.specs.Value.{kind_of}
 use Rattle.hh_base.specs.Bytes.{line_feed}
@@ -17,12 +16,12 @@ use Rattle.hh_term.specs.IsProgram.{IsProgram, interface_of}
 use Rattle.hh_term.specs.Pairs.{EachPair}
 use Rattle.reaction_run.specs.declared.event.Input.{Input}
 use Rattle.reaction_run.specs.Reacting as run
-use Rattle.reaction_run.specs.Reacting.{InputFits, InputsFit, IsValueFor}
+use Rattle.reaction_run.specs.Reacting.{InputFits, IsValueFor}
 use Rattle.scenario_lines.specs.declared.line.Line.{Line}
 use Rattle.scenario_lines.specs.declared.line.Line.TheVariants.{React, Work, Notify, Reset, Settle}
 use Rattle.scenario_lines.specs.declared.line.Mode.{Mode}
 use Rattle.scenario_lines.specs.Interface.{IsGiven, is_given}
-use Rattle.scenario_lines.specs.Scenario.{IsInput, AreInputs, IsLine, Mean, IsScenario, signals_in}
+use Rattle.scenario_lines.specs.Scenario.{IsInput, IsLine, Mean, IsScenario, signals_in}
 use Rattle.scenario_lines.specs.Lines.{parted, in_front, lines_of, without_returns, carriage_return}
 use Rattle.scenario_lines.proofs.Programs.{Locals, stands_first}
 use Rattle.scenario_play.specs.Plays.{LineFits}

@@ -6,7 +6,7 @@ use Rattle.std.proofs.Math.Bridge.{le_prop}
 use Rattle.std.proofs.Math.Nat.{ℕ_set}
 use Rattle.std.proofs.lemmas.Option.{get_or_from_slice_get}
 use Rattle.hh_base.specs.declared.value.Pos.{Pos}
-use Rattle.hh_io.specs.SinkState.{SinkState, Puts, PutsPart, CutsOff}
+use Rattle.hh_io.specs.SinkState.{SinkState}
 use Rattle.hh_io.specs.declared.fault.SinkFault.{SinkFault}
 use Rattle.hh_io.specs.declared.fault.SinkFault.TheVariants.{Failed, NoMemory as OutOfMemory}
 use Rattle.hh_term.specs.declared.program.Program.{Program}
@@ -18,9 +18,9 @@ use Rattle.exec_instance.specs.declared.answer.Answer.{Answer}
 use Rattle.reaction_run.specs.declared.event.Event.{Event}
 use Rattle.reaction_run.specs.declared.log.Entry.{Entry}
 use Rattle.reaction_run.specs.declared.reply.Reply.{Reply}
-use Rattle.reaction_run.specs.Machine.{Machine, State}
+use Rattle.reaction_run.specs.Machine.{State}
 use Rattle.reaction_run.specs.Run.{reply_of, next_state, replies}
-use Rattle.reaction_run.specs.Legal.{Legal, events_of, replies_in}
+use Rattle.reaction_run.specs.Legal.{events_of, replies_in}
 use Rattle.term_machine.specs.Place.{Place}
 use Rattle.term_machine.specs.ConstructiveMachine.{constructive}
 use Rattle.host_hooks.specs.Promise.{Promise}
@@ -43,7 +43,7 @@ use Rattle.hiphop_main.specs.Ends.{Ends}
 use Rattle.hiphop_main.specs.Status.{refusal_line}
 use Rattle.hiphop_main.specs.Split.{module_text, scenario_text}
 use Rattle.hiphop_main.specs.Play.{IsInput, IsOnlyInput, IsBare, IsBad, of_module, of_hooks, of_scenario}
-use Rattle.hiphop_main.specs.Play.{IsRefusedInput, IsLogOf, IsLogText, InputPlayed, refused, played, cut_off}
+use Rattle.hiphop_main.specs.Play.{IsRefusedInput, IsLogText, InputPlayed, refused, played, cut_off}
 use Rattle.hiphop_main.specs.Play.{bodies_of, signals_of, start, cause_of}
 use Rattle.hiphop_main.proofs.Covering.{covered_all}
 use Rattle.hiphop_main.proofs.Refusals.{one_cause}

@@ -1,4 +1,5 @@
--- What `hiphop gen` owes: the text that is made of the seed and the size is played, and its summary is written. (This project's own.)
+-- What `hiphop gen` owes: the text that is made of the seed and the size is played, and its summary is
+-- written. (This project's own.)
 use Rattle.std.specs.Prelude.{◌≡◌, ◌≢◌, ℕ, Some, List, [], codes, slice_get}
 use Rattle.clap.specs.Words.{fault_of}
 use Rattle.hh_io.specs.SinkState.{SinkState, Puts}
@@ -24,22 +25,25 @@ pub record IsGen (words : List (List ℕ)) (seed size : ℕ) : Type 0 where
   pub word : IsGenWord words
   pub order : IsOrder words seed size
 
--- how the call ends: the made text was played to its end, and its summary is due; or it is refused as an input of `play` is; or
--- memory ran out before anything was due
+-- how the call ends: the made text was played to its end, and its summary is due; or it is refused as an
+-- input of `play` is; or memory ran out before anything was due
 pub data SumsUp (hooks : List Promise) (seed size : ℕ) (old new : SinkState) : Cause → Type 0 where
   sums_up : {text : List ℕ} {cause : Cause} → IsLogText hooks (made seed size) text []
       → Ends Fine (summary seed size text) old new cause → SumsUp hooks seed size old new cause
-  refuses : {due cause : Cause} → IsRefusedInput hooks (made seed size) due → Ends due (refusal_line due) old new cause
+  refuses : {due cause : Cause} → IsRefusedInput hooks (made seed size) due →
+      Ends due (refusal_line due) old new cause
       → SumsUp hooks seed size old new cause
   lacks_memory : new ≡ old → SumsUp hooks seed size old new NoMemory
 
 -- what is done with words whose first is passed over, as that of the command
-pub data AnswersWords (hooks : List Promise) (words : List (List ℕ)) (old new : SinkState) (cause : Cause) : Type 0 where
+pub data AnswersWords (hooks : List Promise) (words : List (List ℕ)) (old new : SinkState)
+    (cause : Cause) : Type 0 where
   -- clap takes them
   ordered : {seed size : ℕ} → IsOrder words seed size → SumsUp hooks seed size old new cause
       → AnswersWords hooks words old new cause
   -- clap refuses them, also by a request for help
-  misused : fault_of command words ≢ [] → Ends Usage (refusal_line Usage) old new cause → AnswersWords hooks words old new cause
+  misused : fault_of command words ≢ [] → Ends Usage (refusal_line Usage) old new cause →
+      AnswersWords hooks words old new cause
   -- memory ran out while they were read
   no_order : cause ≡ NoMemory → new ≡ old → AnswersWords hooks words old new cause
 
@@ -56,7 +60,8 @@ pub record Gens (hooks : List Promise) (seed size : ℕ) (x : Exchange) (cause :
   -- where it is fine, the summary was written
   pub fine : cause ≡ Fine → WritesSummary hooks seed size x.sink_before x.sink_after
   -- a made text that is a program with its scenario is played
-  pub complete : (p : Program) (ls : List Line) → IsInput hooks (made seed size) p ls → CompletesUnlessCutOff x cause
+  pub complete : (p : Program) (ls : List Line) → IsInput hooks (made seed size) p ls →
+      CompletesUnlessCutOff x cause
   -- the words were those of a command
   pub command : cause ≢ Usage
   -- and nothing was read

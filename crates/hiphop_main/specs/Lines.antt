@@ -1,5 +1,5 @@
 -- The lines of a text, each with the LF that ends it; the last may lack it.
-use Rattle.std.specs.Prelude.{ℕ, Bool, cond, ◌==◌, List, [], ◌∷◌}
+use Rattle.std.specs.Prelude.{ℕ, cond, ◌==◌, List, [], ◌∷◌}
 
 abbrev pub push_front : ℕ → List (List ℕ) → List (List ℕ)
 push_front b [] = (b ∷ []) ∷ []

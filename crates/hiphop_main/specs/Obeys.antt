@@ -1,5 +1,5 @@
--- What a call of `hiphop` owes for its words: the promise of the program. Each command has its words, a line of `Obeys`, and a
--- record of its own for what it does. (This project's own.)
+-- What a call of `hiphop` owes for its words: the promise of the program. Each command has its words, a line
+-- of `Obeys`, and a record of its own for what it does. (This project's own.)
 use Rattle.std.specs.Prelude.{◌≡◌, ℕ, List, [], ◌∷◌, codes}
 use Rattle.host_hooks.specs.Promise.{Promise}
 use Rattle.hiphop_main.specs.declared.ending.Cause.{Cause}

@@ -28,7 +28,8 @@ use Rattle.scenario_play.specs.Plays as lines
 use Rattle.module_compile.specs.declared.fault.ModuleFault.{ModuleFault}
 use Rattle.module_compile.specs.Compiling.{CompilesTo, IsRefused}
 use Rattle.hiphop_main.specs.declared.ending.Cause.{Cause}
-use Rattle.hiphop_main.specs.declared.ending.Cause.TheVariants.{Fine, ReadFault, Usage, Module, NoHook, Scenario}
+use Rattle.hiphop_main.specs.declared.ending.Cause.TheVariants.{Fine, ReadFault, Usage, Module, NoHook}
+use Rattle.hiphop_main.specs.declared.ending.Cause.TheVariants.{Scenario}
 use Rattle.hiphop_main.specs.declared.ending.Cause.TheVariants.{NoMemory, WriteFault, TooLong}
 use Rattle.hiphop_main.specs.declared.limits.TheConstants.{INPUT_LIMIT}
 use Rattle.hiphop_main.specs.Ends.{Ends}
@@ -128,7 +129,8 @@ cause_of OutOfMemory = NoMemory
 pub data InputPlayed (hooks : List Promise) (input : List ℕ) (old new : SinkState) : Cause → Type 0 where
   refused : {due cause : Cause} → IsRefusedInput hooks input due → Ends due (refusal_line due) old new cause
       → InputPlayed hooks input old new cause
-  played : {text : List ℕ} → IsLogText hooks input text [] → Puts old new text → InputPlayed hooks input old new Fine
+  played : {text : List ℕ} → IsLogText hooks input text [] → Puts old new text →
+      InputPlayed hooks input old new Fine
   cut_off : {text : List ℕ} {behind : List Line} (fault : SinkFault) → IsLogText hooks input text behind
       → CutsOff old new text fault → InputPlayed hooks input old new (cause_of fault)
   unanswered : new ≡ old → InputPlayed hooks input old new NoMemory

@@ -45,7 +45,8 @@ Lined signals text (Err _) = ⊥
 
 -- a program with lines was played, or its log was cut off
 abbrev pub PlaysScript : List Promise → Program → List Line → SinkState → SinkState → Cause → Type 0
-PlaysScript hooks p ls old new Fine = WritesPlay constructive hooks (bodies_of p) (signals_of p) (start p) ls old new
+PlaysScript hooks p ls old new Fine =
+    WritesPlay constructive hooks (bodies_of p) (signals_of p) (start p) ls old new
 PlaysScript hooks p ls old new WriteFault =
     CutsPlay constructive hooks (bodies_of p) (signals_of p) (start p) ls old new Failed
 PlaysScript hooks p ls old new NoMemory =

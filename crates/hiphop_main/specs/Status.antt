@@ -1,10 +1,10 @@
 -- The exit status of each cause, and the line that a refusal writes. (This project's own.)
 use Rattle.std.specs.Prelude.{ℕ, Option, Some, None, List, [], ◌++◌, codes}
 use Rattle.std.specs.Fmt.{decimal}
-use Rattle.module_compile.specs.declared.fault.ModuleFault.{ModuleFault}
 use Rattle.module_compile.specs.FaultForms.{word_of, place_of, number_of}
 use Rattle.hiphop_main.specs.declared.ending.Cause.{Cause}
-use Rattle.hiphop_main.specs.declared.ending.Cause.TheVariants.{Fine, ReadFault, Usage, Module, NoHook, Scenario}
+use Rattle.hiphop_main.specs.declared.ending.Cause.TheVariants.{Fine, ReadFault, Usage, Module, NoHook}
+use Rattle.hiphop_main.specs.declared.ending.Cause.TheVariants.{Scenario}
 use Rattle.hiphop_main.specs.declared.ending.Cause.TheVariants.{NoMemory, WriteFault, TooLong}
 
 abbrev pub status_of : Cause → ℕ
@@ -25,9 +25,11 @@ number_part None = []
 
 -- the line that a refusal writes, with its LF; nothing for the causes that refuse nothing
 abbrev pub refusal_line : Cause → List ℕ
-refusal_line Usage = codes "! usage: hiphop play, compile, play_net, serve [--workers N], gen --seed N --size N\n"
+refusal_line Usage = codes
+    "! usage: hiphop play, compile, play_net, serve [--workers N], gen --seed N --size N\n"
 refusal_line (Module f) =
-    codes "! module " ++ decimal (place_of f) ++ codes " " ++ word_of f ++ number_part (number_of f) ++ codes "\n"
+    codes "! module " ++ decimal (place_of f) ++ codes " " ++ word_of f ++
+    number_part (number_of f) ++ codes "\n"
 refusal_line (NoHook p) = codes "! module " ++ decimal p.0 ++ codes " NoHook\n"
 refusal_line (Scenario n) = codes "! scenario " ++ decimal n ++ codes "\n"
 refusal_line TooLong = codes "! input TooLong\n"

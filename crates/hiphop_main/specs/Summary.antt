@@ -10,9 +10,11 @@ is_refusal (b ∷ bs) = b == 45
 
 abbrev pub summary_line : ℕ → ℕ → ℕ → ℕ → ℕ → List ℕ
 summary_line seed size lines refused bytes =
-    codes "gen seed=" ++ decimal seed ++ codes " size=" ++ decimal size ++ codes " lines=" ++ decimal lines ++ codes " refused="
+    codes "gen seed=" ++ decimal seed ++ codes " size=" ++ decimal size ++ codes " lines=" ++
+    decimal lines ++ codes " refused="
     ++ decimal refused ++ codes " bytes=" ++ decimal bytes ++ codes "\n"
 
 -- how many lines `play` wrote, how many of them tell of a refused reaction, and how many bytes
 abbrev pub summary : ℕ → ℕ → List ℕ → List ℕ
-summary seed size text = summary_line seed size (length (lines_of text)) (count_by is_refusal (lines_of text)) (length text)
+summary seed size text =
+    summary_line seed size (length (lines_of text)) (count_by is_refusal (lines_of text)) (length text)

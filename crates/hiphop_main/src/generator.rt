@@ -31,7 +31,8 @@ pub fn is_gen(words: &CommandLine) -> bool
 
 /// Writes the line that sums up what was played.
 fn write_summary<K: Sink>(alloc: Global, order: Order, text: &[u8], sink: &mut K) -> Cause
-    ensures { Ends Cause.Fine (spec.summary order.seed order.size text.now) (K.state sink.old) (K.state sink.new) result }
+    ensures { Ends Cause.Fine (spec.summary order.seed order.size text.now) (K.state sink.old)
+        (K.state sink.new) result }
 {
     let Ok(line) = summary(alloc, order, text) else {
         return Cause::NoMemory;
@@ -46,7 +47,8 @@ fn write_summary<K: Sink>(alloc: Global, order: Order, text: &[u8], sink: &mut K
 /// Makes the text, plays it in memory, and writes its summary.
 fn play_made<K: Sink>(alloc: Global, order: Order, hooks: &HookTable, sink: &mut K) -> Cause
     requires { order.size ≤ 1000 }
-    ensures { SumsUp (promises_of hooks.now) order.seed order.size (K.state sink.old) (K.state sink.new) result }
+    ensures { SumsUp (promises_of hooks.now) order.seed order.size (K.state sink.old)
+        (K.state sink.new) result }
 {
     let Ok(input) = make(alloc, order.seed, order.size) else {
         return Cause::NoMemory;
@@ -59,9 +61,9 @@ fn play_made<K: Sink>(alloc: Global, order: Order, hooks: &HookTable, sink: &mut
     }
 }
 
-/// Does what the words behind the first ask for, where these hooks are stored: makes a program of that seed and size
-/// with its scenario, plays it, and writes one line that sums the play up.
-/// Words that `clap` does not take are answered by the usage line.
+/// Does what the words behind the first ask for, where these hooks are stored: makes a program of that seed
+/// and size with its scenario, plays it, and writes one line that sums the play up. Words that `clap` does
+/// not take are answered by the usage line.
 pub fn gen_run<K: Sink>(
     alloc: Global,
     words: &CommandLine,

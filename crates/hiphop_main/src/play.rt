@@ -74,7 +74,8 @@ fn play_script<K: Sink>(alloc: Global, script: Script, hooks: &HookTable, sink: 
 
 /// Writes the line of a refused input; nothing where memory ran out.
 fn refuse_input<K: Sink>(alloc: Global, sink: &mut K, cause: Cause) -> Cause
-    ensures { (hooks : List Promise) (input : List ℕ) → (cause ≡ Cause.NoMemory) ⊎ IsRefusedInput hooks input cause
+    ensures { (hooks : List Promise) (input : List ℕ) →
+        (cause ≡ Cause.NoMemory) ⊎ IsRefusedInput hooks input cause
         → InputPlayed hooks input (K.state sink.old) (K.state sink.new) result }
 {
     match cause {

@@ -1,5 +1,5 @@
 -- Terms that a loop gathers: what pieces make one after the other.
-use Rattle.std.proofs.Common.{◌≡◌, ℕ, ◌+◌, ◌<◌, List, [], ◌∷◌, ◌++◌, length, map, take, get_or, refl, sym, ap, ◌∙◌}
+use Rattle.std.proofs.Common.{◌≡◌, ℕ, ◌+◌, ◌<◌, List, [], ◌∷◌, ◌++◌, length, map, take, get_or, sym, ap, ◌∙◌}
 use Rattle.std.proofs.lemmas.List.{map_push, map_more}
 use Rattle.hh_base.specs.declared.value.Pos.{Pos}
 use Rattle.hh_term.specs.declared.term.Term.{Term}

@@ -19,7 +19,8 @@ use Rattle.statement_build.specs.Levels.{kernel_in}
 
 -- what the piece makes
 abbrev pub Writes : Result Term NoMemory → Builder → Builder → Piece → Around → Type 0
-Writes result old new p a = IfOk result (λ t. (placed_term t, numbered_of new) ≡ p (around_of a) (numbered_of old))
+Writes result old new p a =
+    IfOk result (λ t. (placed_term t, numbered_of new) ≡ p (around_of a) (numbered_of old))
 
 abbrev pub forked_piece : Level → Pos → List (BlockNode ℕ) → Piece
 forked_piece l at bs = row.forked (kernel_in l at) (map (of_block (kernel_in l)) bs)
@@ -29,7 +30,8 @@ abbrev pub run_piece : Level → ℕ → List (Binding ℕ) → Piece
 run_piece l m bindings = (kernel_in l (record { 0 = 0 })).run m bindings
 
 -- two blocks one after the other
-abbrev pub both_pieces : Level → BlockNode ℕ → BlockNode ℕ → numbers.Around → Numbered → (Placed × Placed) × Numbered
+abbrev pub both_pieces : Level → BlockNode ℕ → BlockNode ℕ → numbers.Around → Numbered →
+    (Placed × Placed) × Numbered
 both_pieces l p q a n =
     let x = of_block (kernel_in l) p a n in
     let y = of_block (kernel_in l) q a x.1 in

@@ -92,8 +92,8 @@ fn accept(alloc: Global, linked: &Linked) -> Result<Program, ExpandFault>
 }
 
 /// The kernel program of a linked text's main module: each derived statement by its row, and each run by the
-/// body of its module with its signals replaced. Fails where that is larger than the limits of a program, without
-/// writing it out, and where the body of a loop may end in the reaction in which it starts.
+/// body of its module with its signals replaced. Fails where that is larger than the limits of a program,
+/// without writing it out, and where the body of a loop may end in the reaction in which it starts.
 pub fn expand(alloc: Global, linked: &Linked) -> Result<Program, ExpandFault>
     ensures { Expands (expansion_of linked.now) result }
 {

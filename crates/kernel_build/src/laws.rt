@@ -10,8 +10,10 @@ use module_tree::source::{Statement, StatementNode};
 
 /// The first branch of a fork is less deep than the fork, and the other branches are no deeper.
 fn forks_are_deeper(what: &Statement<u32>) -> bool
-    ensures first { (b : ABlock ℕ) (bs : List (ABlock ℕ)) (s : AStatement ℕ) → s ≡ v.Fork (b ∷ bs) → size-BlockNode ℕ b < size-Statement ℕ s }
-    ensures rest { (b : ABlock ℕ) (bs : List (ABlock ℕ)) (s : AStatement ℕ) (r : AStatement ℕ) → s ≡ v.Fork (b ∷ bs) → r ≡ v.Fork bs → size-Statement ℕ r ≤ size-Statement ℕ s }
+    ensures first { (b : ABlock ℕ) (bs : List (ABlock ℕ)) (s : AStatement ℕ) →
+        s ≡ v.Fork (b ∷ bs) → size-BlockNode ℕ b < size-Statement ℕ s }
+    ensures rest { (b : ABlock ℕ) (bs : List (ABlock ℕ)) (s : AStatement ℕ) (r : AStatement ℕ) →
+        s ≡ v.Fork (b ∷ bs) → r ≡ v.Fork bs → size-Statement ℕ r ≤ size-Statement ℕ s }
 {
     match what {
         Statement::Fork(_) => true,
@@ -21,8 +23,10 @@ fn forks_are_deeper(what: &Statement<u32>) -> bool
 
 /// The same of any fork.
 pub fn branches_are_less()
-    ensures first { (b : ABlock ℕ) (bs : List (ABlock ℕ)) → size-BlockNode ℕ b < size-Statement ℕ (v.Fork (b ∷ bs)) }
-    ensures rest { (b : ABlock ℕ) (bs : List (ABlock ℕ)) → size-Statement ℕ (v.Fork bs) ≤ size-Statement ℕ (v.Fork (b ∷ bs)) }
+    ensures first { (b : ABlock ℕ) (bs : List (ABlock ℕ)) →
+        size-BlockNode ℕ b < size-Statement ℕ (v.Fork (b ∷ bs)) }
+    ensures rest { (b : ABlock ℕ) (bs : List (ABlock ℕ)) →
+        size-Statement ℕ (v.Fork bs) ≤ size-Statement ℕ (v.Fork (b ∷ bs)) }
 {
     let _ = forks_are_deeper(&Statement::Nothing);
 }

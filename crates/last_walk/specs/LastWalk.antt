@@ -1,6 +1,7 @@
 -- How the values of the code stand for the last walk over a statement, in which all is decided that it meets.
 -- (This project's own.)
-use Rattle.std.specs.Prelude.{◌≡◌, ℕ, ◌+◌, ◌*◌, Bool, true, false, cond, ◌==◌, ◌&&◌, ◌<◌, ◌≤◌, min, max, Option, Some, None, List, []}
+use Rattle.std.specs.Prelude.{◌≡◌, ℕ, ◌+◌, ◌*◌, Bool, true, false, cond, ◌==◌, ◌&&◌, ◌<◌, ◌≤◌, min, max}
+use Rattle.std.specs.Prelude.{Option, Some, None, List, []}
 use Rattle.std.specs.Prelude.{◌∷◌, ◌++◌, ℤ, ◌+ℤ◌, length, map, take, drop, slice_get, slice_set}
 use Rattle.hh_base.specs.declared.value.Pos.{Pos}
 use Rattle.hh_base.specs.declared.value.Kind.{Kind}
@@ -155,7 +156,8 @@ ends_at None = false
 
 -- a trap lowers the code
 abbrev pub Trapped : Option Completion → Option Completion → Type 0
-Trapped (Some a) (Some b) = (b.code ≡ lower a.code) × (selection_at b.next ≡ mark_map Inside (selection_at a.next))
+Trapped (Some a) (Some b) =
+    (b.code ≡ lower a.code) × (selection_at b.next ≡ mark_map Inside (selection_at a.next))
 Trapped None None = Unit {0}
 Trapped _ _ = ⊥
 
@@ -238,7 +240,8 @@ pub record Asks (levels signals d : ℕ) (p : Statement) (pass : LastPass) : Typ
   pub depth : d < levels
 
 -- a walk over the only part that runs: its mark is in that of the whole
-abbrev pub WalkedIn : Part → Table → Cells → Statement → ℕ → ℕ → Task → Option Completion → LastPass → LastPass → Type 0
+abbrev pub WalkedIn : Part → Table → Cells → Statement → ℕ → ℕ → Task → Option Completion →
+    LastPass → LastPass → Type 0
 WalkedIn part T τ p d l t end before after =
     Did T (wrap (in_part part) (flat_step T τ p d l t (env_of before.cells.signals.items))) end before after
 
@@ -249,7 +252,8 @@ MayEnter s c (Some outer) before after =
 MayEnter s c None before after = (is_decided c.status && is_known c.value) ≡ false
 
 -- a scope was left, and completes as its body did, with the signal's cell in its mark
-pub record Closed (T : Table) (s : ℕ) (outer : Outer) (body end : Completion) (before after : LastPass) : Type 0 where
+pub record Closed (T : Table) (s : ℕ) (outer : Outer) (body end : Completion)
+    (before after : LastPass) : Type 0 where
   pub cell : SigCell
   pub left : Left T s outer cell before after
   pub code : end.code ≡ body.code

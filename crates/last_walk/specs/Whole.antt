@@ -1,5 +1,5 @@
--- How the values of the code stand for what a whole program does, in which all is decided that it meets, and for
--- where the last walk begins. (This project's own.)
+-- How the values of the code stand for what a whole program does, in which all is decided that it meets, and
+-- for where the last walk begins. (This project's own.)
 use Rattle.std.specs.Prelude.{◌≡◌, ℕ, Option, Some, None, List, [], length, slice_get}
 use Rattle.host_expr.specs.declared.cell.Cells.{Cells}
 use Rattle.hh_term.specs.MustCan.{Table}

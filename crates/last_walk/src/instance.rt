@@ -44,7 +44,8 @@ fn rests_in(id: u64, args: Values, queue: Queue) -> Completion
 
 fn evaluated(alloc: Global, expressions: &[Expr<u32>], cells: &Cells) -> Result<Vec<Cell>, NoMemory>
     requires { cells.now.args.items ≡ [] }
-    ensures { IfOk result (λ v. v.items ≡ map (λ e. eval_of (expression_of e) (env_of cells.now.signals.items) [])
+    ensures { IfOk result
+        (λ v. v.items ≡ map (λ e. eval_of (expression_of e) (env_of cells.now.signals.items) [])
         expressions.now) }
 {
     let mut values = Vec::with_capacity(alloc, expressions.len())?;
@@ -137,7 +138,8 @@ pub fn start_async(
     pass: &mut LastPass,
 ) -> Result<Option<Completion>, NoMemory>
     requires { pass.old.cells.args.items ≡ [] }
-    ensures { IfOk result (λ r. Did (table_of (kernel_of program.now)) (step_of_async (table_of (kernel_of program.now))
+    ensures { IfOk result
+        (λ r. Did (table_of (kernel_of program.now)) (step_of_async (table_of (kernel_of program.now))
         site (map (λ e. eval_of e (env_of pass.old.cells.signals.items) [])
         ((table_of (kernel_of program.now)).args site))) r pass.old pass.new) }
 {
@@ -165,7 +167,8 @@ fn emit_answer(
     pass: &mut LastPass,
 ) -> Result<(), NoMemory>
     ensures { OnOk result (Noted (table_of (kernel_of program.now))
-        (answer_bag ((table_of (kernel_of program.now)).target site) answer.now.value) [] [] [] pass.old pass.new) }
+        (answer_bag ((table_of (kernel_of program.now)).target site) answer.now.value)
+        [] [] [] pass.old pass.new) }
 {
     if let Some(signal) = target_of(program, site) {
         let cell = Cell::Known(answer.value.copy(alloc)?);
@@ -193,7 +196,8 @@ fn use_answer(
     pass: &mut LastPass,
 ) -> Result<Completion, NoMemory>
     requires { slice_get instance.now.queue 0 ≡ Some answer.now }
-    ensures { IfOk result (λ r. Done (table_of (kernel_of program.now)) (resumed_async (table_of (kernel_of program.now))
+    ensures { IfOk result
+        (λ r. Done (table_of (kernel_of program.now)) (resumed_async (table_of (kernel_of program.now))
         site instance.now.id instance.now.args instance.now.queue) r pass.old pass.new) }
 {
     emit_answer(alloc, program, site, answer, pass)?;
@@ -225,7 +229,8 @@ pub fn resume_async(
     instance: &AsyncMark,
     pass: &mut LastPass,
 ) -> Result<Completion, NoMemory>
-    ensures { IfOk result (λ r. Done (table_of (kernel_of program.now)) (resumed_async (table_of (kernel_of program.now))
+    ensures { IfOk result
+        (λ r. Done (table_of (kernel_of program.now)) (resumed_async (table_of (kernel_of program.now))
         site instance.now.id instance.now.args instance.now.queue) r pass.old pass.new) }
 {
     if let Some(answer) = instance.queue.get(0) {

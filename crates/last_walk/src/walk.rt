@@ -105,7 +105,8 @@ fn hold(
     mark: &Mark,
     pass: &mut LastPass,
 ) -> Result<Option<Completion>, NoMemory>
-    ensures { IfOk result (λ r. (T : ATable) → Did T (Some (held_step (statement_of term.now) (selection_of mark.now))) r
+    ensures { IfOk result (λ r. (T : ATable) →
+        Did T (Some (held_step (statement_of term.now) (selection_of mark.now))) r
         pass.old pass.new) }
 {
     note_held(term, mark, &mut pass.touches)?;
@@ -148,7 +149,8 @@ fn leave_scope(
 ) -> Result<Completion, NoMemory>
     requires cell { signal < length pass.old.cells.signals.items }
     requires emitted { signal < length pass.old.emitted.items }
-    ensures { IfOk result (λ r. Closed (table_of (kernel_of program.now)) signal outer body r pass.old pass.new) }
+    ensures { IfOk result
+        (λ r. Closed (table_of (kernel_of program.now)) signal outer body r pass.old pass.new) }
 {
     let cell = pass.leave(program, signal, outer);
     let end = in_scope(alloc, body, cell)?;
@@ -423,7 +425,8 @@ fn resume_first(
     requires { Asks (length table.now.rows.items) (length (kernel_of program.now).signals) at.depth
         (Seq (statement_of p.now) (statement_of q.now)) pass.old }
     ensures { IfOk result (λ r. Walked (table_of (kernel_of program.now)) (cells_in table.now)
-        (Seq (statement_of p.now) (statement_of q.now)) at.depth at.level (Resume (First (selection_of m.now))) r pass.old pass.new) }
+        (Seq (statement_of p.now) (statement_of q.now)) at.depth at.level
+        (Resume (First (selection_of m.now))) r pass.old pass.new) }
 {
     let first = resume(alloc, program, table, p, m, at, pass)?;
     if !has_ended(&first) {
@@ -449,8 +452,10 @@ fn resume_left(
 ) -> Result<Option<Completion>, NoMemory>
     requires { Asks (length table.now.rows.items) (length (kernel_of program.now).signals) at.depth
         (statement_of p.now) pass.old }
-    ensures { (q : AStatement) → IfOk result (λ r. Walked (table_of (kernel_of program.now)) (cells_in table.now)
-        (Par (statement_of p.now) q) at.depth at.level (Resume (First (selection_of m.now))) r pass.old pass.new) }
+    ensures { (q : AStatement) →
+        IfOk result (λ r. Walked (table_of (kernel_of program.now)) (cells_in table.now)
+        (Par (statement_of p.now) q) at.depth at.level (Resume (First (selection_of m.now)))
+        r pass.old pass.new) }
 {
     let from = pass.touches.len();
     let Some(end) = resume(alloc, program, table, p, m, at, pass)? else {
@@ -474,8 +479,10 @@ fn resume_right(
 ) -> Result<Option<Completion>, NoMemory>
     requires { Asks (length table.now.rows.items) (length (kernel_of program.now).signals) at.depth
         (statement_of p.now) pass.old }
-    ensures { (q : AStatement) → IfOk result (λ r. Walked (table_of (kernel_of program.now)) (cells_in table.now)
-        (Par q (statement_of p.now)) at.depth at.level (Resume (Second (selection_of m.now))) r pass.old pass.new) }
+    ensures { (q : AStatement) →
+        IfOk result (λ r. Walked (table_of (kernel_of program.now)) (cells_in table.now)
+        (Par q (statement_of p.now)) at.depth at.level (Resume (Second (selection_of m.now)))
+        r pass.old pass.new) }
 {
     let from = pass.touches.len();
     let Some(end) = resume(alloc, program, table, p, m, at, pass)? else {
@@ -501,7 +508,8 @@ fn resume_fork(
     requires { Asks (length table.now.rows.items) (length (kernel_of program.now).signals) at.depth
         (Par (statement_of p.now) (statement_of q.now)) pass.old }
     ensures { IfOk result (λ r. Walked (table_of (kernel_of program.now)) (cells_in table.now)
-        (Par (statement_of p.now) (statement_of q.now)) at.depth at.level (Resume (Both (selection_of m.now) (selection_of n.now))) r pass.old pass.new) }
+        (Par (statement_of p.now) (statement_of q.now)) at.depth at.level
+        (Resume (Both (selection_of m.now) (selection_of n.now))) r pass.old pass.new) }
 {
     let from = pass.touches.len();
     let Some(first) = resume(alloc, program, table, p, m, at, pass)? else {
@@ -529,7 +537,8 @@ fn resume_loop(
     requires { Asks (length table.now.rows.items) (length (kernel_of program.now).signals) at.depth
         (Loop (statement_of p.now)) pass.old }
     ensures { IfOk result (λ r. Walked (table_of (kernel_of program.now)) (cells_in table.now)
-        (Loop (statement_of p.now)) at.depth at.level (Resume (Inside (selection_of m.now))) r pass.old pass.new) }
+        (Loop (statement_of p.now)) at.depth at.level (Resume (Inside (selection_of m.now)))
+        r pass.old pass.new) }
 {
     let depth = at.depth + 1;
     let inner = Place { depth, ..at };
@@ -561,7 +570,8 @@ fn resume_trap(
     requires { Asks (length table.now.rows.items) (length (kernel_of program.now).signals) at.depth
         (Trap (statement_of p.now)) pass.old }
     ensures { IfOk result (λ r. Walked (table_of (kernel_of program.now)) (cells_in table.now)
-        (Trap (statement_of p.now)) at.depth at.level (Resume (Inside (selection_of m.now))) r pass.old pass.new) }
+        (Trap (statement_of p.now)) at.depth at.level (Resume (Inside (selection_of m.now)))
+        r pass.old pass.new) }
 {
     let end = resume(alloc, program, table, p, m, at, pass)?;
     let end = trapped(alloc, end)?;
@@ -585,7 +595,8 @@ fn resume_scope(
     requires { Asks (length table.now.rows.items) (length (kernel_of program.now).signals) at.depth
         (Local signal (statement_of p.now)) pass.old }
     ensures { IfOk result (λ r. Walked (table_of (kernel_of program.now)) (cells_in table.now)
-        (Local signal (statement_of p.now)) at.depth at.level (Resume (Scope (selection_of m.now) pre before.now)) r pass.old pass.new) }
+        (Local signal (statement_of p.now)) at.depth at.level
+        (Resume (Scope (selection_of m.now) pre before.now)) r pass.old pass.new) }
 {
     let Some(outer) = enter_scope(alloc, table, signal, at.level, pre, before, pass)? else {
         return Ok(None);

@@ -38,8 +38,8 @@ fn run_of(end: Option<Completion>) -> Option<Ran>
     }
 }
 
-/// Walks the program where its control rests. The answer is None where the status or the value of a local signal
-/// that it meets is unknown, or a test or an argument.
+/// Walks the program where its control rests. The answer is None where the status or the value of a local
+/// signal that it meets is unknown, or a test or an argument.
 pub fn walk(
     alloc: Global,
     program: &Program,

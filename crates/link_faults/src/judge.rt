@@ -4,7 +4,8 @@ ghost use Rattle.std.specs.Prelude.{◌≡◌};
 ghost use Rattle.host_expr.specs.Kinds.{status_kind, value_kind, only_int, only_bool, both_bool};
 ghost use Rattle.host_expr.specs.Kinds.{arith_kind, one_valued, compare_kind, choose_kind};
 ghost use Rattle.link_faults.specs.Meanings.{kind_of_signal, kind_of_parameter};
-ghost use Rattle.link_faults.specs.Judgements.{IsJudgement, all_have_kinds, judgement_of, over, read, unknown_at};
+ghost use Rattle.link_faults.specs.Judgements.{IsJudgement, all_have_kinds, judgement_of, over, read};
+ghost use Rattle.link_faults.specs.Judgements.{unknown_at};
 
 use crate::fault::{LinkFault, LinkKind, earlier};
 use crate::names::Names;

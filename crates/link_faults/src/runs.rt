@@ -11,7 +11,8 @@ ghost use Rattle.link_faults.specs.declared.fault.LinkKind.{LinkKind as ALinkKin
 ghost use Rattle.link_faults.specs.declared.fault.LinkKind.TheVariants.{TwiceDeclared as ATwice};
 ghost use Rattle.link_faults.specs.Named.{Name as AName, interface_named};
 ghost use Rattle.link_faults.specs.Rows.{wrong_result};
-ghost use Rattle.link_faults.specs.Meanings.{kind_of_signal, kind_of_parameter, meaning, meaning_of, node_meaning};
+ghost use Rattle.link_faults.specs.Meanings.{kind_of_signal, kind_of_parameter, meaning, meaning_of};
+ghost use Rattle.link_faults.specs.Meanings.{node_meaning};
 ghost use Rattle.link_faults.specs.RunFaults.{first_arguments, first_answered, first_called, first_start};
 ghost use Rattle.link_faults.specs.RunFaults.{means_input, means_emitted, kinds_differ, first_bound};
 ghost use Rattle.link_faults.specs.RunFaults.{first_implied, first_right, first_bindings, first_unbound};

@@ -7,7 +7,8 @@ ghost use Rattle.std.specs.Borrow.{Bor};
 ghost use Rattle.module_tree.specs.declared.source.ParameterNode.{ParameterNode as AParameter};
 ghost use Rattle.link_faults.specs.Named.{Name as AName, place_of};
 ghost use Rattle.module_link.specs.Resolved.{or_first};
-ghost use Rattle.module_link.specs.Places.{ArePlaces, Shows, declared_before, signal_place_of, parameter_place_of};
+ghost use Rattle.module_link.specs.Places.{ArePlaces, Shows, declared_before, signal_place_of};
+ghost use Rattle.module_link.specs.Places.{parameter_place_of};
 ghost use Rattle.link_resolve.specs.Walking.{SameButSignals, SameButTraps, module_scope, module_declared};
 
 use hh_base::memory::NoMemory;

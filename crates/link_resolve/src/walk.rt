@@ -2,11 +2,13 @@
 
 ghost use Rattle.std.specs.Prelude.{IfOk, map, option_map};
 ghost use Rattle.module_tree.specs.declared.source.Statement.TheVariants as v;
-ghost use Rattle.module_link.specs.Resolved.{resolved_block, each, if_there, within, resolved, resolved_delay, resolved_later};
+ghost use Rattle.module_link.specs.Resolved.{resolved_block, each, if_there, within, resolved};
+ghost use Rattle.module_link.specs.Resolved.{resolved_delay, resolved_later};
 ghost use Rattle.module_link.specs.Resolved.{in_signals, in_trap};
 ghost use Rattle.module_link.specs.Places.{ArePlaces};
 ghost use Rattle.module_link.specs.Texts.{IsText};
-ghost use Rattle.link_resolve.specs.Walking.{Resolves, resolved_statement, resolved_node, behind_signals, inside_trap};
+ghost use Rattle.link_resolve.specs.Walking.{Resolves, resolved_statement, resolved_node, behind_signals};
+ghost use Rattle.link_resolve.specs.Walking.{inside_trap};
 
 use crate::scopes::{enter_signals, enter_trap};
 use crate::statements::{awaits, breaks, emit, run, starts, sustain, tested};
@@ -346,7 +348,8 @@ pub fn resolve_block(
 ) -> Result<BlockNode<u32>, NoMemory>
     requires places { ArePlaces places.old }
     requires text { IsText text.now }
-    ensures { IfOk result (λ b. Resolves (resolved_block text.now.parts.now block.now) places.old places.new b) }
+    ensures { IfOk result
+        (λ b. Resolves (resolved_block text.now.parts.now block.now) places.old places.new b) }
 {
     let mut statements = Vec::with_capacity(alloc, block.statements.len())?;
     'statements: for node in block.statements.as_slice() {

@@ -1,5 +1,5 @@
--- A program in which each loop's body stands twice, the second time with locals and async sites of its own. (After Berry's cure for
--- reincarnation by doubling; the numbers are this project's own.)
+-- A program in which each loop's body stands twice, the second time with locals and async sites of its own.
+-- (After Berry's cure for reincarnation by doubling; the numbers are this project's own.)
 use Rattle.std.specs.Prelude.{ℕ, suc, ◌+◌, cond, ◌==◌, List, [], ◌∷◌, ◌++◌, length, map, flat_map}
 use Rattle.std.specs.Prelude.{option_map, option_to_list, slice_get, slice_index_or}
 use Rattle.hh_term.specs.Statement.{Statement, Nothing, Pause, Emit, If, Suspend, Seq, Par, Loop, Trap}
@@ -41,8 +41,8 @@ async_count p = length (copied_asyncs p)
 abbrev pub with_number : ℕ → ℕ → (ℕ → ℕ) → ℕ → ℕ
 with_number s n f t = cond (t == s) n (f t)
 
--- The copy of a statement. A signal s that is in scope has the number f s, and the locals and sites in the copy have the numbers from n and
--- from m on, from left to right.
+-- The copy of a statement. A signal s that is in scope has the number f s, and the locals and sites in the
+-- copy have the numbers from n and from m on, from left to right.
 abbrev pub copy : (ℕ → ℕ) → ℕ → ℕ → Statement → Statement
 copy f n m Nothing = Nothing
 copy f n m Pause = Pause

@@ -1,4 +1,5 @@
--- What every copied program keeps: the rules of a program, with limits of its own, and that its loops are doubled. (This project's own.)
+-- What every copied program keeps: the rules of a program, with limits of its own, and that its loops are
+-- doubled. (This project's own.)
 use Rattle.std.specs.Prelude.{◌≡◌, ◌≢◌, ◌-◌, ◌≤◌, ◌+◌, ℕ, max, false, [], length}
 use Rattle.std.specs.List.{AllByRecursion, range_with_len}
 use Rattle.hh_base.specs.declared.value.Dir.TheVariants as dir
@@ -11,7 +12,8 @@ use Rattle.hh_term.specs.Scopes.{ExitsFit, LoopsWait, locals_of, sites_of, UsesI
 use Rattle.hh_term.specs.Fits.{SignalFits, BodyIsFit, SiteFits, StatementFits}
 use Rattle.hh_term.specs.IsProgram.{NamesDiffer, NamesGoByPosition, interface_of, locals_declared}
 
--- each loop's body is two statements one after the other, neither of which may end in the reaction in which it starts
+-- each loop's body is two statements one after the other, neither of which may end in the reaction in which
+-- it starts
 abbrev pub LoopsAreDoubled : Statement → Type 0
 LoopsAreDoubled (If e p q) = LoopsAreDoubled p × LoopsAreDoubled q
 LoopsAreDoubled (Suspend e p) = LoopsAreDoubled p

@@ -1,4 +1,5 @@
--- The laws of copies, as statements. The public functions of `laws` have them as contracts. (This project's own.)
+-- The laws of copies, as statements. The public functions of `laws` have them as contracts. (This project's
+-- own.)
 use Rattle.std.specs.Prelude.{◌≡◌}
 use Rattle.hh_term.specs.Statement.{Statement}
 use Rattle.hh_term.specs.Kernel.{Kernel}
@@ -19,7 +20,8 @@ pub record StandsForOne (p : Statement) (c : Selection) : Type 0 where
   pub stands : Stands p mark c
   pub only : (m : Selection) → Stands p m c → m ≡ mark
 
--- What stands for a mark of the program's statement is a mark of the copied one, with the same ids in the same order.
+-- What stands for a mark of the program's statement is a mark of the copied one, with the same ids in the
+-- same order.
 abbrev pub MarksStandForMarks : Type 0
 MarksStandForMarks =
     (K : Kernel) (m c : Selection) → Stands K.statement m c →
@@ -27,4 +29,5 @@ MarksStandForMarks =
 
 -- Each mark of the copied statement stands for one mark.
 abbrev pub EachMarkStandsForOne : Type 0
-EachMarkStandsForOne = (K : Kernel) (c : Selection) → IsMarkOf (copied_program K).statement c → StandsForOne K.statement c
+EachMarkStandsForOne =
+    (K : Kernel) (c : Selection) → IsMarkOf (copied_program K).statement c → StandsForOne K.statement c

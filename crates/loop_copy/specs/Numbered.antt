@@ -26,7 +26,8 @@ pub record Declares (K : Kernel) (s n : ℕ) (before after : Numbered) : Type 0 
   pub sites : after.sites ≡ before.sites
 
 -- behind what was declared stand copies of these locals, and these sites, as many as are copied
-pub record Adds (K : Kernel) (before after : Numbered) (locals asyncs : List ℕ) (added : List AsyncSite) : Type 0 where
+pub record Adds (K : Kernel) (before after : Numbered) (locals asyncs : List ℕ)
+    (added : List AsyncSite) : Type 0 where
   pub numbers : after.numbers ≡ before.numbers
   pub signals : after.signals ≡ before.signals ++ items_at K.signals locals
   pub sites : after.sites ≡ before.sites ++ added

@@ -38,10 +38,12 @@ renamed_layer f (e.PreVal s) = e.PreVal (f s)
 renamed_layer f x = x
 
 unfoldable pub renamed_expr : (ℕ → ℕ) → Expr ℕ → Expr ℕ
-renamed_expr f = fold-Expr ℕ (ExprNode ℕ) (Expr ℕ) (λ x. roll-ExprNode ℕ (renamed_layer f x)) (λ x. roll-Expr ℕ x)
+renamed_expr f = fold-Expr ℕ (ExprNode ℕ) (Expr ℕ) (λ x. roll-ExprNode ℕ (renamed_layer f x))
+    (λ x. roll-Expr ℕ x)
 
 unfoldable pub renamed_node : (ℕ → ℕ) → ExprNode ℕ → ExprNode ℕ
-renamed_node f = fold-ExprNode ℕ (ExprNode ℕ) (Expr ℕ) (λ x. roll-ExprNode ℕ (renamed_layer f x)) (λ x. roll-Expr ℕ x)
+renamed_node f = fold-ExprNode ℕ (ExprNode ℕ) (Expr ℕ) (λ x. roll-ExprNode ℕ (renamed_layer f x))
+    (λ x. roll-Expr ℕ x)
 
 -- the numbers of the signals by the list of all; one that is not in the list keeps its own
 abbrev pub number_or : ℕ → Option ℕ → ℕ

@@ -24,8 +24,9 @@ impl Copied {
     ghost use Rattle.hh_term.specs.Views.{body_of, site_of, statement_of};
     ghost use Rattle.loop_copy.specs.CopiedView.{copied_of};
 
-    /// The copied program of these declarations and this statement. The first `interface` signals are its interface, the
-    /// others its locals in the order of the statement; a node names signals, bodies and sites by their places in these lists.
+    /// The copied program of these declarations and this statement. The first `interface` signals are its
+    /// interface, the others its locals in the order of the statement; a node names signals, bodies and sites
+    /// by their places in these lists.
     pub fn new(
         signals: Vec<SignalDecl>,
         interface: u32,

@@ -36,7 +36,8 @@ impl Copier {
     fn declare(&mut self, alloc: Global, program: &Program, signal: u32) -> Result<u32, NoMemory>
         requires lies { signal < length (kernel_of program.now).signals }
         requires known { length self.old.numbers.items ≡ length (kernel_of program.now).signals }
-        ensures { IfOk result (λ n. Declares (kernel_of program.now) signal n (numbered self.old) (numbered self.new)) }
+        ensures { IfOk result
+            (λ n. Declares (kernel_of program.now) signal n (numbered self.old) (numbered self.new)) }
     {
         let signals = program.signals();
         let copy = signals[signal as usize].copy(alloc)?;
@@ -67,7 +68,8 @@ impl Copier {
         program: &Program,
         term: &Term,
     ) -> Result<Term, NoMemory>
-        requires lies { LiesWithin (length (kernel_of program.now).signals) (length (kernel_of program.now).sites)
+        requires lies { LiesWithin (length (kernel_of program.now).signals)
+            (length (kernel_of program.now).sites)
             (statement_of term.now) }
         requires known { length self.old.numbers.items ≡ length (kernel_of program.now).signals }
         ensures { IfOk result (λ t. Copies (kernel_of program.now) (numbered self.old) (numbered self.new)
@@ -89,7 +91,8 @@ impl Copier {
         signal: u32,
         body: &Term,
     ) -> Result<(u32, Term), NoMemory>
-        requires lies { LiesWithin (length (kernel_of program.now).signals) (length (kernel_of program.now).sites)
+        requires lies { LiesWithin (length (kernel_of program.now).signals)
+            (length (kernel_of program.now).sites)
             (Local signal (statement_of body.now)) }
         requires known { length self.old.numbers.items ≡ length (kernel_of program.now).signals }
         ensures { IfOk result (λ r. Copies (kernel_of program.now) (numbered self.old) (numbered self.new)
@@ -111,7 +114,8 @@ impl Copier {
         at: Pos,
         body: &Term,
     ) -> Result<Term, NoMemory>
-        requires lies { LiesWithin (length (kernel_of program.now).signals) (length (kernel_of program.now).sites)
+        requires lies { LiesWithin (length (kernel_of program.now).signals)
+            (length (kernel_of program.now).sites)
             (statement_of body.now) }
         requires known { length self.old.numbers.items ≡ length (kernel_of program.now).signals }
         ensures { IfOk result (λ t. Copies (kernel_of program.now) (numbered self.old) (numbered self.new)
@@ -135,7 +139,8 @@ impl Copier {
         at: Pos,
         node: &TermNode,
     ) -> Result<TermNode, NoMemory>
-        requires lies { LiesWithin (length (kernel_of program.now).signals) (length (kernel_of program.now).sites)
+        requires lies { LiesWithin (length (kernel_of program.now).signals)
+            (length (kernel_of program.now).sites)
             (node_statement node.now) }
         requires known { length self.old.numbers.items ≡ length (kernel_of program.now).signals }
         ensures { IfOk result (λ t. Copies (kernel_of program.now) (numbered self.old) (numbered self.new)

@@ -2,7 +2,8 @@
 
 ghost use Rattle.std.specs.Prelude.{◌≡◌, IfOk, map, option_map};
 ghost use Rattle.module_tree.specs.Scopes.{InScope};
-ghost use Rattle.module_link.specs.Resolved.{resolved, resolved_name, resolved_later, resolved_delay, signal_place, trap_place};
+ghost use Rattle.module_link.specs.Resolved.{resolved, resolved_name, resolved_later, resolved_delay};
+ghost use Rattle.module_link.specs.Resolved.{signal_place, trap_place};
 ghost use Rattle.module_link.specs.Places.{ArePlaces, Shows};
 
 use crate::expressions::resolve_expr;

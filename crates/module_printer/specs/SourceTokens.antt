@@ -24,14 +24,16 @@ use Rattle.module_tree.specs.declared.source.BlockNode.{BlockNode}
 use Rattle.module_tree.specs.declared.source.StatementNode.{StatementNode}
 use Rattle.module_tree.specs.declared.source.Statement.{Statement}
 use Rattle.module_tree.specs.declared.source.Statement.TheOpen as s
-use Rattle.module_tree.specs.declared.source.Statement.TheFolds.{fold-Statement, fold-StatementNode, fold-BlockNode}
+use Rattle.module_tree.specs.declared.source.Statement.TheFolds.{fold-Statement, fold-StatementNode}
+use Rattle.module_tree.specs.declared.source.Statement.TheFolds.{fold-BlockNode}
 use Rattle.module_tree.specs.declared.source.Later.{Later}
 use Rattle.module_tree.specs.declared.source.Later.TheVariants as plain
 use Rattle.module_tree.specs.declared.source.Delay.{Delay}
 use Rattle.module_tree.specs.declared.source.Delay.TheVariants as delay
 use Rattle.module_tree.specs.declared.source.Part.{Part}
 use Rattle.module_tree.specs.declared.source.Part.TheVariants as top
-use Rattle.module_printer.specs.ExpressionTokens.{Lexemes, in_parentheses, tokens_of_expression, tokens_of_value}
+use Rattle.module_printer.specs.ExpressionTokens.{Lexemes, in_parentheses, tokens_of_expression}
+use Rattle.module_printer.specs.ExpressionTokens.{tokens_of_value}
 
 -- one after the other
 abbrev pub one_after_another : List Lexemes → Lexemes

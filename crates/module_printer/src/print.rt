@@ -2,7 +2,8 @@
 
 ghost use Rattle.std.specs.Prelude.{◌≡◌, ◌∷◌, ◌++◌, [], codes, map, IfOk};
 ghost use Rattle.module_printer.specs.ExpressionTokens.{in_parentheses};
-ghost use Rattle.module_printer.specs.SourceTokens.{comma_separated, tokens_of_outermost, tokens_of_body, tokens_of_host, tokens_of_module, tokens_of_part};
+ghost use Rattle.module_printer.specs.SourceTokens.{comma_separated, tokens_of_outermost, tokens_of_body};
+ghost use Rattle.module_printer.specs.SourceTokens.{tokens_of_host, tokens_of_module, tokens_of_part};
 ghost use Rattle.module_printer.specs.Printed.{spaced, line_of, printed, Appends, Writes};
 
 mod declarations;

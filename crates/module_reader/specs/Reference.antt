@@ -39,7 +39,9 @@ use Rattle.expression_reader.specs.Terminals.{symbols, is_keyword, is_punct, is_
 use Rattle.expression_reader.specs.Trees.{Name, pos_at}
 use Rattle.module_reader.specs.Trees.{statement_at, block_at, nested}
 use Rattle.expression_reader.specs.Rules.{is_quoted, is_number, largest}
-use Rattle.expression_reader.specs.Reference.{Parser, keyword, punct, name, named, quoted, number, how_often, optional, listed, listed_or_none, in_round, in_curly, outermost, bracketed_test, arguments}
+use Rattle.expression_reader.specs.Reference.{Parser, keyword, punct, name, named, quoted, number, how_often}
+use Rattle.expression_reader.specs.Reference.{optional, listed, listed_or_none, in_round, in_curly, outermost}
+use Rattle.expression_reader.specs.Reference.{bracketed_test, arguments}
 
 -- ---- declarations
 

@@ -34,7 +34,9 @@ use Rattle.grammar.specs.Language.{◌>>=◌, ◌>>◌, pure, ◌or◌, many, no
 use Rattle.expression_reader.specs.declared.terminal.Terminal.{Terminal}
 use Rattle.expression_reader.specs.declared.terminal.Terminal.TheVariants as terminal
 use Rattle.expression_reader.specs.Trees.{Name, pos_at}
-use Rattle.expression_reader.specs.Rules.{Lang, keyword, punct, name, quoted, named, number, optional, listed, listed_or_none, in_round, in_curly, largest, outermost, test, arguments}
+use Rattle.expression_reader.specs.Rules.{Lang, keyword, punct, name, quoted, named, number, optional, listed}
+use Rattle.expression_reader.specs.Rules.{listed_or_none, in_round, in_curly, largest, outermost, test}
+use Rattle.expression_reader.specs.Rules.{arguments}
 use Rattle.module_reader.specs.Trees.{statement_at, block_at, nested, has_module}
 
 -- ---- declarations
@@ -432,7 +434,8 @@ statement block room =
 abbrev pub block : ℕ → Lang (BlockNode Name)
 block zero = nothing
 block (suc room) = language.opened (suc room) (terminal.Punct mark.LeftBrace)
-    (λ left place. do inner ← many (statement (block room) room); punct mark.RightBrace; pure (block_at place inner))
+    (λ left place.
+    do inner ← many (statement (block room) room); punct mark.RightBrace; pure (block_at place inner))
 
 -- ---- texts. No bracket is open before the lists of their declarations, so there is always room for one.
 

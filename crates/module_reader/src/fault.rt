@@ -9,7 +9,8 @@ use module_token::fault::TokenFault;
 use std::fmt;
 use thiserror::Error;
 
-/// What is wrong at a token, or at the end of the text, in the order in which two faults at one token are answered.
+/// What is wrong at a token, or at the end of the text, in the order in which two faults at one token are
+/// answered.
 #[derive(Clone, Copy, PartialEq, Eq, Debug)]
 pub enum GrammarFaultKind {
     /// 2^63 as a leaf of an expression.

@@ -27,7 +27,8 @@ fn read_tokens(alloc: Global, text: &str, tokens: &[Token]) -> Result<Items<Part
     requires readable { All (IsReadable text.now) tokens.now }
     requires short { length text.now < 2 ^ 32 }
     ensures { Exact as_refusal
-        (parser.whole (rule.parts OPEN_LIMIT) (parser.start (toks text.now tokens.now) (length text.now))) result }
+        (parser.whole (rule.parts OPEN_LIMIT) (parser.start (toks text.now tokens.now) (length text.now)))
+        result }
 {
     let mut reader = Reader::new(alloc, text, tokens, text.len() as u32);
     read_whole(&mut reader)

@@ -105,8 +105,8 @@ pub struct StatementNode<R: Drop> {
     pub what: Statement<R>,
 }
 
-/// A statement, by its words. The truth in `Suspend` says whether it has the word `immediate`. What is written of
-/// `async` is the largest by far, and has a block of memory of its own.
+/// A statement, by its words. The truth in `Suspend` says whether it has the word `immediate`. What is
+/// written of `async` is the largest by far, and has a block of memory of its own.
 #[cycle(source)]
 #[derive(Drop)]
 pub enum Statement<R: Drop> {

@@ -43,7 +43,8 @@ fn with_given(
     signal: u32,
     mut body: MustCan,
 ) -> Result<MustCan, NoMemory>
-    ensures { IfOk result (λ a. (l : Last) → must_can_of a ≡ with_given (outer_at inputs.now signal l) (must_can_of body)) }
+    ensures { IfOk result (λ a. (l : Last) →
+        must_can_of a ≡ with_given (outer_at inputs.now signal l) (must_can_of body)) }
 {
     let mut must = given(alloc, inputs, signal)?;
     must.append(&mut body.must)?;
@@ -107,7 +108,8 @@ fn nest(
     requires args { cells.now.args.items ≡ [] }
     requires signals { signal + length lasts.now ≤ (kernel_of program.now).interface }
     ensures { IfOk result (λ a. must_can_of a ≡ nest (table_of (kernel_of program.now))
-        (outers_from signal inputs.now (lasts_of lasts.now)) (body_of (kernel_of program.now) (control_in marked.now))
+        (outers_from signal inputs.now (lasts_of lasts.now))
+        (body_of (kernel_of program.now) (control_in marked.now))
         (environment_of cells.now)) }
 {
     match lasts {
@@ -146,7 +148,8 @@ fn interface_round(
     requires signals { signal + length rest.now < (kernel_of program.now).interface }
     ensures { IfOk result (λ d. (l : Last) → d ≡ round (table_of (kernel_of program.now)) signal
         (λ F. with_given (outer_at inputs.now signal l) (nest (table_of (kernel_of program.now))
-        (outers_from (suc signal) inputs.now (lasts_of rest.now)) (body_of (kernel_of program.now) (control_in marked.now)) F))
+        (outers_from (suc signal) inputs.now (lasts_of rest.now))
+        (body_of (kernel_of program.now) (control_in marked.now)) F))
         (environment_of cells.now) cell) }
 {
     let inner = with(alloc, cells, signal, copy_signal(alloc, &cell)?)?;
@@ -179,7 +182,8 @@ fn solved_cell(
     requires signals { signal + length rest.now < (kernel_of program.now).interface }
     ensures { IfOk result (λ d. d ≡ solved_cell (table_of (kernel_of program.now))
         (outer_at inputs.now signal (last_at last.now)) (nest (table_of (kernel_of program.now))
-        (outers_from (suc signal) inputs.now (lasts_of rest.now)) (body_of (kernel_of program.now) (control_in marked.now)))
+        (outers_from (suc signal) inputs.now (lasts_of rest.now))
+        (body_of (kernel_of program.now) (control_in marked.now)))
         (environment_of cells.now)) }
 {
     let opened = unsolved(last.0, last.1.copy(alloc)?);
@@ -198,7 +202,8 @@ fn solved(
 ) -> Result<Cells, NoMemory>
     requires signals { signal + length lasts.now ≤ (kernel_of program.now).interface }
     ensures { IfOk result (λ c. environment_of c ≡ solved (table_of (kernel_of program.now))
-        (outers_from signal inputs.now (lasts_of lasts.now)) (body_of (kernel_of program.now) (control_in marked.now))
+        (outers_from signal inputs.now (lasts_of lasts.now))
+        (body_of (kernel_of program.now) (control_in marked.now))
         (environment_of cells)) }
 {
     match lasts {
@@ -231,7 +236,8 @@ pub fn solve(
 ) -> Result<Cells, NoMemory>
     requires { length before.now ≡ (kernel_of program.now).interface }
     ensures { IfOk result (λ c. environment_of c ≡ solved (table_of (kernel_of program.now))
-        (outers_from 0 inputs.now (lasts_of before.now)) (body_of (kernel_of program.now) (control_in marked.now)) blank) }
+        (outers_from 0 inputs.now (lasts_of before.now))
+        (body_of (kernel_of program.now) (control_in marked.now)) blank) }
 {
     let cells = Cells {
         signals: Vec::new(alloc),

@@ -4,7 +4,8 @@ ghost use Rattle.std.specs.Prelude.{◌≡◌, ◌<◌, ◌∷◌, [], cond, IfO
 ghost use Rattle.hh_term.specs.Codes.{only};
 ghost use Rattle.hh_term.specs.Flags.{Agrees};
 ghost use Rattle.hh_term.specs.MustCan.{gives, greater, go_on, is_end, hide as hidden, lower_code};
-ghost use Rattle.hh_term.specs.MustCan.{one_of as one_of_both, parallel, trapped as trapped_both, raised, table_of};
+ghost use Rattle.hh_term.specs.MustCan.{one_of as one_of_both, parallel, trapped as trapped_both, raised};
+ghost use Rattle.hh_term.specs.MustCan.{table_of};
 ghost use Rattle.hh_term.specs.ProgramView.{kernel_of};
 ghost use Rattle.nested_reaction.specs.View.{code_of, in_sequence, index_of, must_can_of};
 
@@ -182,7 +183,8 @@ pub fn raised(
     cell: &SigCell,
     body: &MustCan,
 ) -> Result<SigCell, NoMemory>
-    ensures { IfOk result (λ c. c ≡ raised (table_of (kernel_of program.now)) signal cell.now (must_can_of body.now)) }
+    ensures { IfOk result
+        (λ c. c ≡ raised (table_of (kernel_of program.now)) signal cell.now (must_can_of body.now)) }
 {
     let must = cells_of(alloc, signal, &body.must)?;
     let can = cells_of(alloc, signal, &body.can)?;

@@ -35,7 +35,8 @@ pub enum Verdict {
 
 fn judge(alloc: Global, condition: &Expr<u32>, cells: &Cells) -> Result<Verdict, NoMemory>
     requires { cells.now.args.items ≡ [] }
-    ensures { IfOk result (λ v. v ≡ verdict (eval_of (expression_of condition.now) (environment_of cells.now) [])) }
+    ensures { IfOk result
+        (λ v. v ≡ verdict (eval_of (expression_of condition.now) (environment_of cells.now) [])) }
 {
     Ok(match eval(alloc, condition, cells)? {
         Cell::Unknown => Verdict::Undecided,
@@ -77,7 +78,8 @@ fn answer(
     queue: &Queue,
     sure: bool,
 ) -> Result<MustCan, NoMemory>
-    ensures { IfOk result (λ a. must_can_of a ≡ answered ((table_of (kernel_of program.now)).target site) queue.now
+    ensures { IfOk result
+        (λ a. must_can_of a ≡ answered ((table_of (kernel_of program.now)).target site) queue.now
         (index_of sure)) }
 {
     let Some(first) = queue.get(0) else {
@@ -106,7 +108,8 @@ pub fn start(
     cells: &Cells,
 ) -> Result<MustCan, NoMemory>
     requires { cells.now.args.items ≡ [] }
-    ensures { IfOk result (λ a. must_can_of a ≡ must_can (table_of (kernel_of program.now)) (statement_of term.now) Start
+    ensures { IfOk result
+        (λ a. must_can_of a ≡ must_can (table_of (kernel_of program.now)) (statement_of term.now) Start
         (index_of sure) (environment_of cells.now)) }
 {
     match &term.node {
@@ -156,7 +159,8 @@ fn start_round(
     cell: SigCell,
 ) -> Result<SigCell, NoMemory>
     ensures { IfOk result (λ d. d ≡ round (table_of (kernel_of program.now)) signal
-        (must_can (table_of (kernel_of program.now)) (statement_of body.now) Start (index_of sure)) (environment_of cells.now)
+        (must_can (table_of (kernel_of program.now)) (statement_of body.now) Start (index_of sure))
+        (environment_of cells.now)
         cell) }
 {
     let inner = with(alloc, cells, signal, copy_signal(alloc, &cell)?)?;
@@ -176,7 +180,8 @@ fn start_scope(
     cells: &Cells,
 ) -> Result<MustCan, NoMemory>
     ensures { IfOk result (λ a. must_can_of a ≡ scoped (table_of (kernel_of program.now)) signal
-        (must_can (table_of (kernel_of program.now)) (statement_of body.now) Start (index_of sure)) (environment_of cells.now)
+        (must_can (table_of (kernel_of program.now)) (statement_of body.now) Start (index_of sure))
+        (environment_of cells.now)
         (unsolved_cell false ((table_of (kernel_of program.now)).first signal))) }
 {
     let opened = unsolved(false, first_of(alloc, program, signal)?);
@@ -198,7 +203,8 @@ pub fn resume(
     cells: &Cells,
 ) -> Result<MustCan, NoMemory>
     requires { cells.now.args.items ≡ [] }
-    ensures { IfOk result (λ a. must_can_of a ≡ must_can (table_of (kernel_of program.now)) (statement_of term.now)
+    ensures { IfOk result
+        (λ a. must_can_of a ≡ must_can (table_of (kernel_of program.now)) (statement_of term.now)
         (Resume (selection_of mark.now)) (index_of sure) (environment_of cells.now)) }
 {
     match (&term.node, mark) {
@@ -268,7 +274,8 @@ fn resume_round(
     cell: SigCell,
 ) -> Result<SigCell, NoMemory>
     ensures { IfOk result (λ d. d ≡ round (table_of (kernel_of program.now)) signal
-        (must_can (table_of (kernel_of program.now)) (statement_of body.now) (Resume (selection_of mark.now)) (index_of sure))
+        (must_can (table_of (kernel_of program.now)) (statement_of body.now)
+        (Resume (selection_of mark.now)) (index_of sure))
         (environment_of cells.now) cell) }
 {
     let inner = with(alloc, cells, signal, copy_signal(alloc, &cell)?)?;
@@ -290,7 +297,8 @@ fn resume_scope(
     opened: SigCell,
 ) -> Result<MustCan, NoMemory>
     ensures { IfOk result (λ a. must_can_of a ≡ scoped (table_of (kernel_of program.now)) signal
-        (must_can (table_of (kernel_of program.now)) (statement_of body.now) (Resume (selection_of mark.now)) (index_of sure))
+        (must_can (table_of (kernel_of program.now)) (statement_of body.now)
+        (Resume (selection_of mark.now)) (index_of sure))
         (environment_of cells.now) opened) }
 {
     let once = resume_round(alloc, program, signal, body, mark, sure, cells, opened)?;

@@ -139,8 +139,8 @@ fn past_lines(nets: &NetRecords, scope: &Scope, fit: &[bool]) -> Result<u64, u64
     Ok(done + 2)
 }
 
-/// Whether the kinds and the names of each line of these nets fit, or the first line where they do not. That two
-/// interface signals have two names is another rule.
+/// Whether the kinds and the names of each line of these nets fit, or the first line where they do not. That
+/// two interface signals have two names is another rule.
 pub fn check_kinds(alloc: Global, nets: &NetRecords) -> Result<(), KindFault>
     requires { ListsCounted nets.now }
     ensures kinds { OnOk result (AllFit nets.now) }

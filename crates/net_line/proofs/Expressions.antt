@@ -74,7 +74,7 @@ expr_from (And a b) = at_pos 0 (node.And (expr_from a) (expr_from b))
 expr_from (Or a b) = at_pos 0 (node.Or (expr_from a) (expr_from b))
 expr_from (Choose a b c) = at_pos 0 (node.Choose (expr_from a) (expr_from b) (expr_from c))
 
-text_ends : (x : Expression) (c : List ℕ) → Ends (expression_text x ++ c)
+pub text_ends : (x : Expression) (c : List ℕ) → Ends (expression_text x ++ c)
 text_ends (Int z) c = refl
 text_ends (Flag b) c = refl
 text_ends (Text t) c = refl

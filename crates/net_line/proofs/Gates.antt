@@ -62,7 +62,7 @@ pub digits_unquoted : (ds : List ℕ) → all_ascii_digits ds ≡ true → is_qu
 digits_unquoted [] h = refl
 digits_unquoted (b ∷ ds) h = not_quote b (both (is_ascii_digit b) (all_ascii_digits ds) h).0
 
-decimal_digits : (n : ℕ) → IsSmall n → all_ascii_digits (decimal n) ≡ true
+pub decimal_digits : (n : ℕ) → IsSmall n → all_ascii_digits (decimal n) ≡ true
 decimal_digits n h = digits_decimal own n (omega (arith, h))
 
 pub decimal_plain : (n : ℕ) → IsSmall n → plain (decimal n) ≡ true

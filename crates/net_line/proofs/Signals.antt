@@ -69,7 +69,7 @@ plain_part_of (b ∷ bs) w c e q = by_quote (b == quote) refl e
         let s = same_read (take (word_len (b ∷ bs)) (b ∷ bs)) w (drop (word_len (b ∷ bs)) (b ∷ bs)) c e in
         ap plain (sym s.0) ∙ plain_front (b ∷ bs)
 
-part_plain : (l w c : List ℕ) → part l ≡ Some (w, c) → is_quoted w ≡ false → plain w ≡ true
+pub part_plain : (l w c : List ℕ) → part l ≡ Some (w, c) → is_quoted w ≡ false → plain w ≡ true
 part_plain [] w c e q = absurd cc
 part_plain (b ∷ bs) w c e q = by_space (b == space) refl e
   where
@@ -78,7 +78,7 @@ part_plain (b ∷ bs) w c e q = by_space (b == space) refl e
     by_space true h e = plain_part_of bs w c e q
     by_space false h e = absurd cc
 
-name_unquoted : (w : List ℕ) → is_name_part w ≡ true → is_quoted w ≡ false
+pub name_unquoted : (w : List ℕ) → is_name_part w ≡ true → is_quoted w ≡ false
 name_unquoted [] e = refl
 name_unquoted (b ∷ bs) e = no_quote (b == quote) (is_utf8 (b ∷ bs)) e
   where

@@ -34,7 +34,7 @@ use Rattle.net_line.proofs.Gates.{digits_plain, digits_unquoted}
 use Rattle.net_line.proofs.Parts.{DecodesAll, is_quoted, IsPart, plain_part, cut_seam}
 
 -- one word of several
-pick : {A : Type 0} (W : A → List ℕ) (w v : List ℕ) (a b : A) (other : Option A) → W a ≡ v
+pub pick : {A : Type 0} (W : A → List ℕ) (w v : List ℕ) (a b : A) (other : Option A) → W a ≡ v
     → (if bytes_eq w v then Some a else other) ≡ Some b → (w ≡ W b) ⊎ (other ≡ Some b)
 pick {A} W w v a b other is e = by_test (bytes_eq w v) refl e
   where
@@ -43,7 +43,7 @@ pick {A} W w v a b other is e = by_test (bytes_eq w v) refl e
     by_test true h e = inl (let same : a ≡ b = cc in are_same w v h ∙ sym is ∙ ap W same)
     by_test false h e = inr e
 
-none_left : {A : Type 0} {P : Type 0} (b : A) → ◌≡◌ {A = Option A} None (Some b) → P
+pub none_left : {A : Type 0} {P : Type 0} (b : A) → ◌≡◌ {A = Option A} None (Some b) → P
 none_left b e = absurd cc
 
 pub dirs : DecodesAll dir_of dir_word Anything

@@ -112,7 +112,8 @@ pub fn handler_of(alloc: Global, part: &[u8]) -> Result<Option<Text>, LineFault>
     text_value(value)
 }
 
-fn is_name_part(part: &[u8]) -> bool
+/// Whether the part may stand for a name: no quote stands first.
+pub fn is_name_part(part: &[u8]) -> bool
     ensures { result ≡ is_name_part part.now }
 {
     match part.first() {

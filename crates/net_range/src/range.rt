@@ -54,8 +54,8 @@ fn past_bodies(nets: &NetRecords, from: u64) -> Result<u64, u64>
     Ok(line)
 }
 
-/// The number of the line behind the registers, whose count stands on line `from`, or of the first of these lines
-/// that is out of range.
+/// The number of the line behind the registers, whose count stands on line `from`, or of the first of these
+/// lines that is out of range.
 fn past_registers(nets: &NetRecords, from: u64) -> Result<u64, u64>
     requires { from + length nets.now.registers < 2 ^ 63 }
     ensures lines { result ≡ past from (section (register_in_range nets.now) nets.now.registers) }

@@ -1,10 +1,9 @@
 -- What reads what in nets. (This project's own.)
-use Rattle.std.specs.Prelude.{◌≡◌, ℕ, suc, ◌<◌, ◌==◌, cond, List, [], ◌∷◌, ◌++◌, length, map, get_or}
+use Rattle.std.specs.Prelude.{◌≡◌, ℕ, suc, ◌<◌, ◌==◌, cond, List, [], ◌∷◌, ◌++◌, length, get_or}
 use Rattle.std.specs.List.{flat_map}
 use Rattle.net_list.specs.declared.gate.NetGate.{NetGate}
 use Rattle.net_list.specs.declared.gate.NetGate.TheVariants as gate
 use Rattle.net_list.specs.declared.record.NetEmit.{NetEmit}
-use Rattle.net_list.specs.declared.record.NetRecords.{NetRecords}
 
 -- the gates that a gate's equation reads, as often as it does
 abbrev pub inputs_of : NetGate → List ℕ

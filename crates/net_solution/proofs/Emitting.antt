@@ -1,5 +1,5 @@
 -- Where more is known of emissions, the value that they made stays.
-use Rattle.std.proofs.Common.{◌≡◌, refl, sym, ap, subst, ◌∙◌, ℕ, Bool, true, false, cond, ◌&&◌, Option}
+use Rattle.std.proofs.Common.{◌≡◌, refl, sym, ap, subst, ◌∙◌, Bool, true, false, cond, Option}
 use Rattle.std.proofs.Common.{List, [], ◌∷◌, ◌++◌}
 use Rattle.std.specs.List.{list_all, flat_map}
 use Rattle.hh_base.specs.declared.value.Kind.{Kind}
@@ -10,7 +10,7 @@ use Rattle.host_expr.specs.declared.cell.Cell.{Cell}
 use Rattle.host_expr.specs.declared.cell.Cell.TheVariants as cell
 use Rattle.host_expr.specs.Environment.{is_known}
 use Rattle.host_expr.specs.Knows.{TriBelow, CellBelow}
-use Rattle.net_solution.specs.Equations.{Emission, is_absent, is_settled, made, value_made}
+use Rattle.net_solution.specs.Equations.{Emission, is_settled, made, value_made}
 use Rattle.net_solution.specs.Equations.{value_by_emissions}
 use Rattle.net_solution.proofs.Truths.{cell_is, known_same, and_left, and_right, and_both}
 

@@ -1,8 +1,8 @@
 -- The least solution: there is one at most, and what rises to a standstill comes to it.
-use Rattle.std.proofs.Common.{◌≡◌, refl, sym, ap, subst, ◌∙◌, ℕ, zero, suc, ◌+◌, ◌≤◌, ◌<◌, Bool, true}
-use Rattle.std.proofs.Common.{false, List, [], ◌∷◌, map, get_or, length, arith}
+use Rattle.std.proofs.Common.{◌≡◌, refl, sym, ap, subst, ◌∙◌, ℕ, suc}
+use Rattle.std.proofs.Common.{List, [], ◌∷◌, map, get_or, length, arith}
 use Rattle.hh_base.specs.declared.value.Tri.{Tri}
-use Rattle.hh_base.specs.declared.value.Tri.TheVariants.{Unknown, Zero, One}
+use Rattle.hh_base.specs.declared.value.Tri.TheVariants.{Unknown}
 use Rattle.host_expr.specs.declared.cell.Cell.{Cell}
 use Rattle.host_expr.specs.declared.cell.Cell.TheVariants as cell
 use Rattle.host_expr.specs.Knows.{TriBelow, CellBelow}
@@ -10,7 +10,7 @@ use Rattle.net_list.specs.declared.record.NetRecords.{NetRecords}
 use Rattle.net_solution.specs.Question.{Question}
 use Rattle.net_solution.specs.Solution.{Valuation, statuses, value_at, numbered, given_by, IsSolution}
 use Rattle.net_solution.specs.Solution.{IsBelow}
-use Rattle.net_solution.specs.Solution.{IsBelowAll, IsLeast, OneLeast, HasSizes, Rises, NothingRises}
+use Rattle.net_solution.specs.Solution.{IsLeast, OneLeast, HasSizes, Rises, NothingRises}
 use Rattle.net_solution.proofs.Truths.{tri_is, cell_is, tri_trans, cell_trans, tri_antisym, cell_antisym}
 use Rattle.net_solution.proofs.Rising.{equations_rise}
 
@@ -18,7 +18,7 @@ length_map : {X Y : Type 0} (f : X → Y) (xs : List X) → length (map f xs) �
 length_map f [] = refl
 length_map f (x ∷ xs) = ap suc (length_map f xs)
 
-length_numbered : {X Y : Type 0} (f : ℕ → X → Y) (n : ℕ) (xs : List X) → length (numbered f n xs) ≡ length xs
+pub length_numbered : {X Y : Type 0} (f : ℕ → X → Y) (n : ℕ) (xs : List X) → length (numbered f n xs) ≡ length xs
 length_numbered f n [] = refl
 length_numbered f n (x ∷ xs) = ap suc (length_numbered f (suc n) xs)
 

@@ -1,10 +1,9 @@
 -- Where more is known of signals, an expression that was known keeps its value.
-use Rattle.std.proofs.Common.{◌≡◌, refl, sym, ap, ◌∙◌, ℕ, Bool, true, false, cond, not, ◌&&◌, List, []}
+use Rattle.std.proofs.Common.{◌≡◌, refl, sym, ap, ◌∙◌, ℕ, Bool, true, false, cond, not, ◌&&◌, []}
 use Rattle.hh_base.specs.declared.value.Value.TheVariants as value
-use Rattle.host_expr.specs.declared.cell.Cell.{Cell}
 use Rattle.host_expr.specs.declared.cell.Cell.TheVariants as cell
 use Rattle.host_expr.specs.Environment.{is_decided, is_known, is_present}
-use Rattle.host_expr.specs.Knows.{TriBelow, CellBelow}
+use Rattle.host_expr.specs.Knows.{CellBelow}
 use Rattle.host_expr.specs.Expression.{Expression, Int, Flag, Text, Now, Pre, NowVal, PreVal, Arg, Not, Neg}
 use Rattle.host_expr.specs.Expression.{Arith, Compare, And, Or, Choose}
 use Rattle.host_expr.specs.Evaluation.{reads_known, then_with, truth, negated, compared, run}
@@ -12,7 +11,7 @@ use Rattle.host_expr.specs.Evaluation as evaluation
 use Rattle.net_solution.specs.Seen.{SeenBelow, ViewBelow}
 use Rattle.net_solution.specs.Seen.{Seen, View, cells_seen, known_seen, base_seen, before_known}
 use Rattle.net_solution.specs.Seen.{expression_value}
-use Rattle.net_solution.proofs.Truths.{cell_is, decided_same, known_same, and_left, and_right, and_both}
+use Rattle.net_solution.proofs.Truths.{decided_same, known_same, and_left, and_right, and_both}
 use Rattle.net_solution.proofs.Truths.{guarded_up}
 
 pub base_up : (c d : Seen) → SeenBelow c d → CellBelow (base_seen c) (base_seen d)

@@ -1,9 +1,8 @@
 -- Where more is known, the equations give more.
-use Rattle.std.proofs.Common.{◌≡◌, refl, sym, ap, subst, ◌∙◌, ℕ, zero, suc, Bool, true, false, cond}
-use Rattle.std.proofs.Common.{Option, Some, None, List, [], ◌∷◌, ◌++◌, map, get_or, slice_get, ◌==◌}
+use Rattle.std.proofs.Common.{◌≡◌, refl, sym, ap, ◌∙◌, ℕ, zero, suc, true}
+use Rattle.std.proofs.Common.{Option, Some, None, List, [], ◌∷◌, map, get_or, slice_get, ◌==◌}
 use Rattle.std.specs.List.{list_any, list_all, flat_map}
 use Rattle.hh_base.specs.declared.value.Kind.{Kind}
-use Rattle.hh_base.specs.declared.value.Value.{Value}
 use Rattle.hh_base.specs.declared.value.Value.TheVariants as value
 use Rattle.hh_base.specs.declared.value.Tri.{Tri}
 use Rattle.hh_base.specs.declared.value.Tri.TheVariants.{Unknown, Zero, One}
@@ -12,7 +11,6 @@ use Rattle.host_expr.specs.declared.cell.Cell.TheVariants as cell
 use Rattle.host_expr.specs.Expression.{expression_of}
 use Rattle.host_expr.specs.Environment.{is_decided, is_present}
 use Rattle.host_expr.specs.Knows.{TriBelow, CellBelow}
-use Rattle.host_expr.specs.Evaluation.{truth}
 use Rattle.net_list.specs.declared.gate.NetGate.{NetGate}
 use Rattle.net_list.specs.declared.gate.NetGate.TheVariants as gate
 use Rattle.net_list.specs.declared.record.Sent.{Sent}
@@ -20,21 +18,21 @@ use Rattle.net_list.specs.declared.record.Sent.TheVariants as sent
 use Rattle.net_list.specs.declared.record.NetSignal.{NetSignal}
 use Rattle.net_list.specs.declared.record.NetTest.{NetTest}
 use Rattle.net_list.specs.declared.record.NetRecords.{NetRecords}
-use Rattle.net_solution.specs.Question.{Question, first_item, item_value, state_of, is_given, is_last_item}
+use Rattle.net_solution.specs.Question.{Question, first_item, state_of, is_given, is_last_item}
 use Rattle.net_solution.specs.Question.{is_part_item}
-use Rattle.net_solution.specs.Seen.{Seen, View, base_seen, expression_value}
+use Rattle.net_solution.specs.Seen.{View, base_seen}
 use Rattle.net_solution.specs.Equations.{Statuses, is_absent, status_of_truth, and_over, or_over, test_status}
 use Rattle.net_solution.specs.Equations.{tested, gate_value, carried, emission_of, input_of, emissions_of}
-use Rattle.net_solution.specs.Equations.{signal_value, base_value, seen_signal, last_value}
+use Rattle.net_solution.specs.Equations.{signal_value, base_value, last_value}
 use Rattle.net_solution.specs.Solution.{Valuation, statuses, value_at, seen_at, view_of, numbered, given_by}
 use Rattle.net_solution.specs.Solution.{IsBelow}
-use Rattle.net_solution.proofs.Truths.{tri_is, cell_is, decided_same, any_from, all_from, none_from}
+use Rattle.net_solution.proofs.Truths.{tri_is, decided_same, any_from, all_from, none_from}
 use Rattle.net_solution.proofs.Truths.{absent_up}
 use Rattle.net_solution.proofs.Truths.{present_up, present_not_absent, absent_not_present, opposite_up}
 use Rattle.net_solution.proofs.Truths.{picked_up}
 use Rattle.net_solution.proofs.Reading.{base_up, expression_up}
 use Rattle.net_solution.specs.Seen.{SeenBelow, ViewBelow}
-use Rattle.net_solution.proofs.Emitting.{EmissionBelow, EachBelow, each_append, each_same, each_flat}
+use Rattle.net_solution.proofs.Emitting.{EachBelow, each_append, each_same, each_flat}
 use Rattle.net_solution.proofs.Emitting.{one_where}
 use Rattle.net_solution.proofs.Emitting.{value_up}
 
@@ -129,13 +127,13 @@ view_rises N Q v w h s =
     seen_rises Q (statuses v) (statuses w) (value_at v s) (value_at w s) s h.gates (h.values s)
     (slice_get N.signals s)
 
-map_rises : {X : Type 0} (f g : X → Tri) → ((x : X) → TriBelow (f x) (g x)) → (xs : List X) (n : ℕ)
+pub map_rises : {X : Type 0} (f g : X → Tri) → ((x : X) → TriBelow (f x) (g x)) → (xs : List X) (n : ℕ)
     → TriBelow (get_or (map f xs) n Unknown) (get_or (map g xs) n Unknown)
 map_rises f g h [] n = tt
 map_rises f g h (x ∷ xs) zero = h x
 map_rises f g h (x ∷ xs) (suc n) = map_rises f g h xs n
 
-numbered_rises : {X : Type 0} (f g : ℕ → X → Cell) → ((n : ℕ) (x : X) → CellBelow (f n x) (g n x))
+pub numbered_rises : {X : Type 0} (f g : ℕ → X → Cell) → ((n : ℕ) (x : X) → CellBelow (f n x) (g n x))
     → (m : ℕ) (xs : List X) (n : ℕ)
     → CellBelow (get_or (numbered f m xs) n cell.Unknown) (get_or (numbered g m xs) n cell.Unknown)
 numbered_rises f g h m [] n = tt

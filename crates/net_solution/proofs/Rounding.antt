@@ -1,6 +1,6 @@
 -- Rounds: each computes what the equations give, and the last one changes nothing.
 use Rattle.std.proofs.Common.{◌≡◌, refl, sym, ap, subst, ◌∙◌, ℕ, zero, suc, ◌+◌, ◌≤◌, ◌<◌, ◌⊎◌, inl, inr}
-use Rattle.std.proofs.Common.{⊎_elim, Bool, true, false, cond, not, ◌||◌, Option, Some, None, List, []}
+use Rattle.std.proofs.Common.{⊎_elim, Bool, true, false, cond, not, ◌||◌, List, []}
 use Rattle.std.proofs.Common.{◌∷◌, ◌++◌, map, get_or, slice_get, length, take, filter, nat_lt, arith}
 use Rattle.std.proofs.lemmas.List.{take_more, flat_map_more, length-take-le}
 use Rattle.std.proofs.lemmas.Bool.{cases_lt, lt-ltb, ltb-true}
@@ -10,17 +10,16 @@ use Rattle.hh_base.specs.declared.value.Tri.TheVariants.{Unknown, Zero, One}
 use Rattle.host_expr.specs.declared.cell.Cell.{Cell}
 use Rattle.host_expr.specs.declared.cell.Cell.TheVariants as cell
 use Rattle.host_expr.specs.declared.cell.SigCell.{SigCell}
-use Rattle.host_expr.specs.Environment.{is_decided, is_known, env_of}
+use Rattle.host_expr.specs.Environment.{is_decided, is_known}
 use Rattle.host_expr.specs.Knows.{TriBelow, CellBelow}
 use Rattle.net_list.specs.declared.record.NetSignal.{NetSignal}
 use Rattle.net_list.specs.declared.record.NetRecords.{NetRecords}
-use Rattle.net_solution.specs.declared.valuation.Before.{Before}
 use Rattle.net_solution.specs.Question.{Question}
-use Rattle.net_solution.specs.Seen.{Seen, View}
-use Rattle.net_solution.specs.Equations.{Statuses, seen_signal, nothing_seen, signal_value}
-use Rattle.net_solution.specs.Solution.{Valuation, statuses, value_at, seen_at, view_of, numbered, given_by}
-use Rattle.net_solution.specs.Solution.{IsBelow, IsSolution, IsLeast}
-use Rattle.net_solution.specs.Places.{known_by, seen_by}
+use Rattle.net_solution.specs.Seen.{View}
+use Rattle.net_solution.specs.Equations.{Statuses, seen_signal, signal_value}
+use Rattle.net_solution.specs.Solution.{Valuation, seen_at, view_of, numbered, given_by}
+use Rattle.net_solution.specs.Solution.{IsBelow, IsLeast}
+use Rattle.net_solution.specs.Places.{seen_by}
 use Rattle.net_solution.specs.Rounds.{cell_given, known_given, open_gates, open_cells, open_values, has_more}
 use Rattle.net_solution.specs.Solution.{HasSizes, Rises}
 use Rattle.net_solution.proofs.Least.{given_sizes, rises_by_all, stands_least, below_same, nothing_rises}

@@ -7,7 +7,7 @@ use Rattle.host_expr.specs.declared.cell.Cell.{Cell}
 use Rattle.host_expr.specs.declared.cell.Cell.TheVariants as cell
 use Rattle.host_expr.specs.Environment.{is_decided, is_known, is_present}
 use Rattle.host_expr.specs.Knows.{TriBelow, CellBelow}
-use Rattle.net_solution.specs.Equations.{is_absent, status_of_truth, opposite}
+use Rattle.net_solution.specs.Equations.{is_absent, opposite}
 
 pub tri_is : (x y : Tri) → y ≡ x → TriBelow x y
 tri_is Unknown y e = tt

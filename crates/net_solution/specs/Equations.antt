@@ -1,7 +1,7 @@
 -- The equation of each gate and of each signal's value in a reaction. (Scott propagation: three-valued gates,
 -- of which unknown is the least; values, tests and async answers are this project's own.)
-use Rattle.std.specs.Prelude.{ℕ, Bool, true, false, cond, not, ◌&&◌, ◌==◌, Option, Some, None, List, []}
-use Rattle.std.specs.Prelude.{◌∷◌, ◌++◌, map, get_or, slice_get, suc}
+use Rattle.std.specs.Prelude.{ℕ, Bool, true, false, cond, ◌==◌, Option, Some, None, List, []}
+use Rattle.std.specs.Prelude.{◌∷◌, ◌++◌, map, slice_get}
 use Rattle.std.specs.List.{list_any, list_all, flat_map}
 use Rattle.hh_base.specs.declared.value.Kind.{Kind}
 use Rattle.hh_base.specs.declared.value.Value.{Value}
@@ -11,7 +11,6 @@ use Rattle.hh_base.specs.declared.value.Tri.TheVariants.{Unknown, Zero, One}
 use Rattle.hh_base.specs.declared.value.CombineWord.{CombineWord}
 use Rattle.host_expr.specs.declared.cell.Cell.{Cell}
 use Rattle.host_expr.specs.declared.cell.Cell.TheVariants as cell
-use Rattle.host_expr.specs.declared.expr.Expr.{Expr}
 use Rattle.host_expr.specs.Environment.{is_decided, is_known, is_present, env_of, unsolved}
 use Rattle.host_expr.specs.Expression.{expression_of}
 use Rattle.host_expr.specs.Evaluation.{truth}

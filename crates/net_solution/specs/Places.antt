@@ -1,16 +1,14 @@
 -- What the values of the code say: a lent question, and a valuation with what is known of each signal.
 -- (This project's own.)
-use Rattle.std.specs.Prelude.{◌≡◌, ℕ, Bool, false, List, [], map, get_or}
-use Rattle.hh_base.specs.declared.value.Tri.{Tri}
+use Rattle.std.specs.Prelude.{◌≡◌, ℕ, false, List, [], map, get_or}
 use Rattle.host_expr.specs.declared.cell.SigCell.{SigCell}
-use Rattle.host_expr.specs.Environment.{env_of, is_decided}
-use Rattle.net_list.specs.declared.record.NetSignal.{NetSignal}
+use Rattle.host_expr.specs.Environment.{env_of}
 use Rattle.net_list.specs.declared.record.NetRecords.{NetRecords}
 use Rattle.net_solution.specs.declared.question.Asked.{Asked}
 use Rattle.net_solution.specs.declared.valuation.Before.{Before}
 use Rattle.net_solution.specs.declared.valuation.Valuation.{Valuation as Place}
 use Rattle.net_solution.specs.Question.{Question}
-use Rattle.net_solution.specs.Seen.{Seen, View}
+use Rattle.net_solution.specs.Seen.{View}
 use Rattle.net_solution.specs.Equations.{Statuses}
 use Rattle.net_solution.specs.Solution.{Valuation, statuses, view_of}
 

@@ -1,5 +1,5 @@
 -- What a reaction of nets begins with. (This project's own.)
-use Rattle.std.specs.Prelude.{ℕ, Bool, true, false, not, ◌==◌, Option, Some, None, List, get_or}
+use Rattle.std.specs.Prelude.{ℕ, Bool, false, not, ◌==◌, Option, Some, None, List, get_or}
 use Rattle.std.specs.List.{list_any}
 use Rattle.hh_base.specs.declared.value.Value.{Value}
 use Rattle.hh_base.specs.declared.value.Kind.{Kind}

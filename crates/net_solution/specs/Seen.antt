@@ -1,12 +1,12 @@
 -- What is known of signals in a reaction of nets, and what an expression gives then. (This project's own.)
-use Rattle.std.specs.Prelude.{◌≡◌, ℕ, Bool, true, false, cond, ◌&&◌, List, [], get_or}
+use Rattle.std.specs.Prelude.{◌≡◌, ℕ, Bool, true, cond, ◌&&◌, []}
 use Rattle.hh_base.specs.declared.value.Value.TheVariants as value
 use Rattle.host_expr.specs.declared.cell.Cell.{Cell}
 use Rattle.host_expr.specs.declared.cell.Cell.TheVariants as cell
 use Rattle.host_expr.specs.declared.cell.SigCell.{SigCell}
 use Rattle.host_expr.specs.Environment.{Env}
 use Rattle.host_expr.specs.Knows.{TriBelow, CellBelow}
-use Rattle.host_expr.specs.Expression.{Expression, Now, Pre, NowVal, PreVal, Not, Neg, Arith, Compare, And}
+use Rattle.host_expr.specs.Expression.{Expression, Pre, PreVal, Not, Neg, Arith, Compare, And}
 use Rattle.host_expr.specs.Expression.{Or, Choose}
 use Rattle.host_expr.specs.Evaluation.{eval_of}
 use Rattle.net_solution.specs.declared.valuation.Before.{Before}

@@ -1,5 +1,5 @@
 -- Solutions of the equations of nets, and the least one. (Scott propagation.)
-use Rattle.std.specs.Prelude.{◌≡◌, ℕ, zero, suc, Option, Some, None, List, [], ◌∷◌, map, get_or, slice_get}
+use Rattle.std.specs.Prelude.{◌≡◌, ℕ, suc, Option, Some, None, List, [], ◌∷◌, map, get_or, slice_get}
 use Rattle.std.specs.Prelude.{length}
 use Rattle.hh_base.specs.declared.value.Tri.{Tri}
 use Rattle.hh_base.specs.declared.value.Tri.TheVariants.{Unknown}

@@ -10,7 +10,7 @@ ghost use Rattle.net_solution.specs.Equations.{tested, gate_value, is_absent};
 
 use crate::expression::expression_value;
 use crate::question::{Asked, is_given, is_last, is_part, state_of};
-use crate::valuation::{Valuation, status_of};
+use crate::valuation::{Valuation, is_present, status_of};
 use hh_base::memory::NoMemory;
 use hh_base::value::{Tri, Value};
 use host_expr::cell::Cell;
@@ -38,12 +38,6 @@ fn is_absent(status: Tri) -> bool
     ensures { result ≡ is_absent status }
 {
     matches!(status, Tri::Zero)
-}
-
-fn is_present(status: Tri) -> bool
-    ensures { result ≡ is_present status }
-{
-    matches!(status, Tri::One)
 }
 
 fn is_any_absent(gates: &[Tri], inputs: &[u32]) -> bool

@@ -1,5 +1,6 @@
 //! Laws of least solutions. Each call does nothing; its contract is the law.
-ghost use Rattle.net_solution.specs.Solution.{OneLeast, EquationsRise, NothingRises, StepsRise, StandingIsLeast};
+ghost use Rattle.net_solution.specs.Solution.{OneLeast, EquationsRise, NothingRises, StepsRise};
+ghost use Rattle.net_solution.specs.Solution.{StandingIsLeast};
 
 /// There is no second least solution, so two ways that both come to one leave the same valuation.
 pub fn one_least()

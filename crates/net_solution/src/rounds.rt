@@ -3,7 +3,7 @@
 ghost use Rattle.std.specs.Prelude.{◌≡◌, ◌||◌, ◌∷◌, [], IfOk, OnOk, map, get_or, nat_lt, not, length};
 ghost use Rattle.std.specs.Prelude.{filter};
 ghost use Rattle.hh_base.specs.declared.value.Tri.TheVariants as tri;
-ghost use Rattle.host_expr.specs.Environment.{is_decided, is_known, is_present, env_of};
+ghost use Rattle.host_expr.specs.Environment.{is_known, is_present, env_of};
 ghost use Rattle.net_solution.specs.Equations.{gate_value, base_value, last_value};
 ghost use Rattle.net_solution.specs.Places.{question_of, seen_in, valuation_of, IsExact};
 ghost use Rattle.net_solution.specs.Solution.{numbered, given_by, IsLeast};
@@ -13,7 +13,7 @@ ghost use Rattle.net_solution.specs.Rounds.{has_more};
 use crate::gate::gate_value;
 use crate::question::Asked;
 use crate::signal::{preval_of, signal_value};
-use crate::valuation::{Before, Valuation, status_of};
+use crate::valuation::{Before, Valuation, is_decided, is_present, status_of};
 use hh_base::item::Item;
 use hh_base::memory::NoMemory;
 use hh_base::value::{Tri, Value};
@@ -21,18 +21,6 @@ use host_expr::cell::{Cell, Cells, SigCell};
 use net_list::nets::Nets;
 use net_list::record::{NetRecords, NetSignal};
 use std::alloc::Global;
-
-fn is_decided(status: Tri) -> bool
-    ensures { result ≡ is_decided status }
-{
-    !matches!(status, Tri::Unknown)
-}
-
-fn is_present(status: Tri) -> bool
-    ensures { result ≡ is_present status }
-{
-    matches!(status, Tri::One)
-}
 
 fn gates_given(
     alloc: Global,
@@ -51,12 +39,13 @@ fn gates_given(
     Ok(gates)
 }
 
-fn known_given(gates: &[Tri], record: &NetSignal) -> Before
-    ensures { result ≡ known_given (λ g. get_or gates.now g tri.Unknown) record.now }
+/// What of a signal's past is known where the gates have these statuses.
+pub fn known_given(gates: &[Tri], signal: &NetSignal) -> Before
+    ensures { result ≡ known_given (λ g. get_or gates.now g tri.Unknown) signal.now }
 {
     Before {
-        pre: is_decided(status_of(gates, record.pre)),
-        base: is_decided(status_of(gates, record.sel)),
+        pre: is_decided(status_of(gates, signal.pre)),
+        base: is_decided(status_of(gates, signal.sel)),
     }
 }
 
@@ -65,25 +54,26 @@ fn all_known_given(alloc: Global, nets: &NetRecords, gates: &[Tri]) -> Result<Ve
         ≡ map (known_given (λ g. get_or gates.now g tri.Unknown)) nets.now.signals) }
 {
     let mut known = Vec::with_capacity(alloc, nets.signals.len())?;
-    for record in nets.signals.as_slice() {
-        known.push(known_given(gates, record))?;
+    for signal in nets.signals.as_slice() {
+        known.push(known_given(gates, signal))?;
     }
     Ok(known)
 }
 
-fn base_value(
+/// The base value of a signal where its sel gate has this status.
+pub fn base_value(
     alloc: Global,
     asked: &Asked<'_>,
     sel: Tri,
     number: usize,
-    record: &NetSignal,
+    signal: &NetSignal,
 ) -> Result<Value, NoMemory>
     ensures { IfOk result (λ v. v
-        ≡ base_value sel record.now.decl.first (last_value (question_of asked.now) number)) }
+        ≡ base_value sel signal.now.decl.first (last_value (question_of asked.now) number)) }
 {
     match sel {
         Tri::One => preval_of(alloc, &asked.cells.signals, number),
-        Tri::Zero => Ok(record.decl.first.copy(alloc)?),
+        Tri::Zero => Ok(signal.decl.first.copy(alloc)?),
         Tri::Unknown => Ok(Value::Unit),
     }
 }
@@ -95,19 +85,19 @@ fn cell_given(
     place: &Valuation,
     gates: &[Tri],
     number: usize,
-    record: &NetSignal,
+    signal: &NetSignal,
 ) -> Result<SigCell, NoMemory>
     requires { place.now.cells.args.items ≡ [] }
     ensures { IfOk result (λ c. c ≡ cell_given nets.now (question_of asked.now)
         (λ g. get_or place.now.gates.items g tri.Unknown) (seen_in place.now)
-        (λ g. get_or gates.now g tri.Unknown) number record.now) }
+        (λ g. get_or gates.now g tri.Unknown) number signal.now) }
 {
-    let value = signal_value(alloc, nets, asked, place, number, record)?;
-    let preval = base_value(alloc, asked, status_of(gates, record.sel), number, record)?;
+    let value = signal_value(alloc, nets, asked, place, number, signal)?;
+    let preval = base_value(alloc, asked, status_of(gates, signal.sel), number, signal)?;
     Ok(SigCell {
-        status: status_of(gates, record.status),
+        status: status_of(gates, signal.status),
         value,
-        pre: is_present(status_of(gates, record.pre)),
+        pre: is_present(status_of(gates, signal.pre)),
         preval,
     })
 }
@@ -126,8 +116,8 @@ fn cells_given(
 {
     let signals = nets.signals.as_slice();
     let mut cells = Vec::with_capacity(alloc, signals.len())?;
-    for (number, record) in signals.iter().enumerate() {
-        cells.push(cell_given(alloc, nets, asked, place, gates, number, record)?)?;
+    for (number, signal) in signals.iter().enumerate() {
+        cells.push(cell_given(alloc, nets, asked, place, gates, number, signal)?)?;
     }
     Ok(cells)
 }

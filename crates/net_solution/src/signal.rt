@@ -1,12 +1,13 @@
 //! The equation of a signal's value.
-ghost use Rattle.std.specs.Prelude.{◌≡◌, ◌||◌, ◌∷◌, [], IfOk, cond, not, get_or};
+ghost use Rattle.std.specs.Prelude.{◌≡◌, ◌||◌, ◌∷◌, List, [], IfOk, cond, not, get_or};
 ghost use Rattle.std.specs.List.{flat_map};
 ghost use Rattle.hh_base.specs.declared.value.Tri.TheVariants as tri;
 ghost use Rattle.host_expr.specs.declared.cell.Cell.TheVariants as cell;
 ghost use Rattle.host_expr.specs.Environment.{env_of};
 ghost use Rattle.net_solution.specs.Equations.{carried, emission_of, input_of, emissions_of, signal_value};
-ghost use Rattle.net_solution.specs.Equations.{is_absent};
+ghost use Rattle.net_solution.specs.Equations.{is_absent, Emission, value_by_emissions};
 ghost use Rattle.net_solution.specs.Places.{question_of, known_by, seen_in};
+ghost use Rattle.net_solution.specs.Seen.{base_seen};
 ghost use Rattle.net_solution.specs.Tallied.{tallied, Meets};
 
 use crate::expression::expression_value;
@@ -56,7 +57,7 @@ fn meet_input(
 }
 
 /// One emission more, where it is the signal's. What it carries counts only where it is made.
-fn meet_emission(
+pub fn meet_emission(
     alloc: Global,
     asked: &Asked<'_>,
     place: &Valuation,
@@ -84,7 +85,8 @@ fn meet_emission(
     }
 }
 
-fn meet_inputs(
+/// The given inputs of a signal.
+pub fn meet_inputs(
     alloc: Global,
     asked: &Asked<'_>,
     kind: Kind,
@@ -107,15 +109,15 @@ fn meet_all(
     asked: &Asked<'_>,
     place: &Valuation,
     signal: usize,
-    record: &NetSignal,
+    net_signal: &NetSignal,
 ) -> Result<Tally, NoMemory>
     requires { place.now.cells.args.items ≡ [] }
-    ensures { IfOk result (λ t. t ≡ tallied record.now.decl.kind record.now.decl.combine
+    ensures { IfOk result (λ t. t ≡ tallied net_signal.now.decl.kind net_signal.now.decl.combine
         (emissions_of nets.now (question_of asked.now) (λ g. get_or place.now.gates.items g tri.Unknown)
-        (seen_in place.now) record.now.decl.kind signal)) }
+        (seen_in place.now) net_signal.now.decl.kind signal)) }
 {
-    let kind = record.decl.kind;
-    let word = record.decl.combine;
+    let kind = net_signal.decl.kind;
+    let word = net_signal.decl.combine;
     let mut tally = meet_inputs(alloc, asked, kind, word, signal)?;
     for emit in nets.emits.as_slice() {
         tally = meet_emission(alloc, asked, place, kind, word, signal, emit, tally)?;
@@ -154,6 +156,25 @@ fn over_base(base_known: bool, solved: Known) -> Cell
     }
 }
 
+/// The value of a signal whose emissions came to this tally.
+pub fn tallied_value(
+    alloc: Global,
+    place: &Valuation,
+    signal: usize,
+    net_signal: &NetSignal,
+    tally: Tally,
+) -> Result<Cell, NoMemory>
+    ensures { IfOk result (λ c. (es : List Emission)
+        → tally ≡ tallied net_signal.now.decl.kind net_signal.now.decl.combine es
+        → c ≡ value_by_emissions net_signal.now.decl.kind net_signal.now.decl.combine
+        (base_seen (seen_in place.now signal)) es) }
+{
+    let preval = preval_of(alloc, &place.cells.signals, signal)?;
+    let base_known = is_base_known(&place.before, signal);
+    let solved = tally.solved(alloc, net_signal.decl.kind, preval);
+    Ok(over_base(base_known, solved))
+}
+
 /// What the equation of a signal's value gives. The time is that of one walk over all emissions.
 pub fn signal_value(
     alloc: Global,
@@ -161,15 +182,13 @@ pub fn signal_value(
     asked: &Asked<'_>,
     place: &Valuation,
     signal: usize,
-    record: &NetSignal,
+    net_signal: &NetSignal,
 ) -> Result<Cell, NoMemory>
     requires { place.now.cells.args.items ≡ [] }
     ensures { IfOk result (λ c. c ≡ signal_value nets.now (question_of asked.now)
-        (λ g. get_or place.now.gates.items g tri.Unknown) (seen_in place.now) signal record.now) }
+        (λ g. get_or place.now.gates.items g tri.Unknown) (seen_in place.now) signal net_signal.now) }
 {
-    let tally = meet_all(alloc, nets, asked, place, signal, record)?;
-    let preval = preval_of(alloc, &place.cells.signals, signal)?;
-    let base_known = is_base_known(&place.before, signal);
-    let solved = tally.solved(alloc, record.decl.kind, preval);
-    Ok(over_base(base_known, solved))
+    let tally = meet_all(alloc, nets, asked, place, signal, net_signal)?;
+    let value = tallied_value(alloc, place, signal, net_signal, tally)?;
+    Ok(value)
 }

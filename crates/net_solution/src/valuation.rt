@@ -1,5 +1,6 @@
 //! Valuations.
 ghost use Rattle.std.specs.Prelude.{◌≡◌, get_or};
+ghost use Rattle.host_expr.specs.Environment.{is_decided, is_present};
 ghost use Rattle.hh_base.specs.declared.value.Tri.TheVariants as tri;
 
 use hh_base::value::Tri;
@@ -29,4 +30,18 @@ pub fn status_of(gates: &[Tri], gate: u32) -> Tri
         Some(status) => *status,
         None => Tri::Unknown,
     }
+}
+
+/// Whether a status is known.
+pub fn is_decided(status: Tri) -> bool
+    ensures { result ≡ is_decided status }
+{
+    !matches!(status, Tri::Unknown)
+}
+
+/// Whether a status is 1.
+pub fn is_present(status: Tri) -> bool
+    ensures { result ≡ is_present status }
+{
+    matches!(status, Tri::One)
 }

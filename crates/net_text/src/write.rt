@@ -78,7 +78,8 @@ fn write_each_register(registers: &[(bool, u32)], out: &mut Vec<u8>) -> Result<(
 }
 
 fn write_registers(registers: &[(bool, u32)], out: &mut Vec<u8>) -> Result<(), NoMemory>
-    ensures { OnOk result (out.new.items ≡ out.old.items ++ section (codes "registers") register_line registers.now) }
+    ensures { OnOk result (out.new.items ≡ out.old.items ++
+        section (codes "registers") register_line registers.now) }
 {
     write_counted(b"registers", registers.len(), out)?;
     write_each_register(registers, out)

@@ -76,8 +76,8 @@ pub record TookAll (old new : TakePass) (had has : List Answer) (count : ℕ) : 
   pub few : length has ≤ 4096
   pub end : length has < 4096 → RanDry old new
 
--- what the queue held was taken, and `rest` is what it holds then. That is nothing where fewer than 4,096 were taken, and where
--- all passes were gathered before, since then nobody posts
+-- what the queue held was taken, and `rest` is what it holds then. That is nothing where fewer than 4,096
+-- were taken, and where all passes were gathered before, since then nobody posts
 pub record Drained (old new : TakePass) (had has : List Answer) : Type 0 where
   pub more : List Answer
   pub took : Took old new had has more

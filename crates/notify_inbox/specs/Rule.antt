@@ -1,6 +1,7 @@
--- The rule of the inbox: the list of all posts is what was taken, and then what the queue holds; and each pass's own posts stand in
--- it, in their order, each once. (This project's own.)
-use Rattle.std.specs.Prelude.{◌≡◌, ℕ, suc, ◌+◌, ◌<◌, ◌≤◌, Bool, true, false, List, [], ◌∷◌, ◌++◌, length, slice_get, Some, ltb, eqb}
+-- The rule of the inbox: the list of all posts is what was taken, and then what the queue holds; and each
+-- pass's own posts stand in it, in their order, each once. (This project's own.)
+use Rattle.std.specs.Prelude.{◌≡◌, ℕ, suc, ◌+◌, ◌<◌, ◌≤◌, Bool, true, false, List, [], ◌∷◌, ◌++◌, length}
+use Rattle.std.specs.Prelude.{slice_get, Some, ltb, eqb}
 use mathlib.Core.Option.{some}
 use lib.ListN.{get_elem?}
 use Rattle.turn_cell.specs.Lists.{total}
@@ -42,7 +43,8 @@ module _ {A : Type 0} where
   abbrev pub times_at : ℕ → PassView A → ℕ
   times_at p v = count_at p v.posts + total (count_at p) v.gathered
 
-  -- its own posts stand in the list of all, and those of each pass that was gathered into it; without a part there are none
+  -- its own posts stand in the list of all, and those of each pass that was gathered into it; without a part
+  -- there are none
   pub record ViewFits (all : List A) (v : PassView A) : Type 0 where
     pub stand : StandTo all 0 v.posts
     pub gathered : EachStands all v.gathered
@@ -58,15 +60,16 @@ module _ {A : Type 0} where
     pub whole : total parts_of views ≡ 16
     pub few : length items ≤ 4096
 
-  -- what the pass posted, and those that were gathered into it, stands in the list of all posts, and no place twice. With all
-  -- parts, each place is that of one of these posts
+  -- what the pass posted, and those that were gathered into it, stands in the list of all posts, and no place
+  -- twice. With all parts, each place is that of one of these posts
   pub record Gathers (all : List A) (v : PassView A) : Type 0 where
     pub fits : ViewFits all v
     pub once : (p : ℕ) → times_at p v ≤ 1
     pub every : v.parts ≡ 16 → (p : ℕ) → times_at p v ≡ below p (length all)
     pub long : v.parts ≡ 16 → posts_of v ≡ length all
 
-  -- what a post pass learns of what the queue holds: it is the end of the list of all posts, in which its own posts stand
+  -- what a post pass learns of what the queue holds: it is the end of the list of all posts, in which its own
+  -- posts stand
   pub record EndsPosts (v : PassView A) (items : List A) : Type 0 where
     pub before : List A
     pub fits : ViewFits (before ++ items) v

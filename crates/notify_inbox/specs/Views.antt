@@ -32,7 +32,11 @@ module _ {A : Type 0} where
 
   -- with the posts of another pass
   abbrev pub with_posts : PassView A → PassView A → PassView A
-  with_posts v w = record v { takes = v.takes + w.takes; gathered = w.posts ∷ v.gathered; parts = v.parts + w.parts }
+  with_posts v w = record v {
+    takes = v.takes + w.takes;
+    gathered = w.posts ∷ v.gathered;
+    parts = v.parts + w.parts;
+  }
 
   -- with the posts of several passes of one part each
   abbrev pub gathering : PassView A → List (List (ℕ × A)) → PassView A

@@ -2,7 +2,8 @@
 ghost use Rattle.std.specs.Prelude.{◌≡◌, ℕ, ◌-◌, ◌≤◌, length, All, IfOk, IfErr, OnErr};
 ghost use Rattle.crossbeam_queue.specs.Passes.{view, IsPassOf};
 ghost use Rattle.notify_inbox.specs.Views.{all_parts, poster, taker, posted};
-ghost use Rattle.notify_inbox.specs.Calls.{take_view, post_view, posters_of, empties_of, IsTakePassOf, IsPostPassOf, WasFull};
+ghost use Rattle.notify_inbox.specs.Calls.{take_view, post_view, posters_of, empties_of, IsTakePassOf};
+ghost use Rattle.notify_inbox.specs.Calls.{IsPostPassOf, WasFull};
 
 use crate::passes::{Full, Inbox, PostPass, TakePass};
 use crate::steps::{Give, InboxRule, Post};

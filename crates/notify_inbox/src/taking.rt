@@ -1,5 +1,6 @@
 //! Taking answers, and the end of an inbox.
-ghost use Rattle.std.specs.Prelude.{◌≡◌, ◌+◌, ◌≤◌, length, map, All, IfOk, IfSome, IfNone, OnErr, vec_len, vec_capacity};
+ghost use Rattle.std.specs.Prelude.{◌≡◌, ◌+◌, ◌≤◌, length, map, All, IfOk, IfSome, IfNone, OnErr, vec_len};
+ghost use Rattle.std.specs.Prelude.{vec_capacity};
 ghost use Rattle.notify_inbox.specs.Views.{taken, gathering};
 ghost use Rattle.notify_inbox.specs.Calls.{take_view, posts_in, empties_of, IsTakePassOf, IsPostPassOf};
 ghost use Rattle.notify_inbox.specs.Calls.{RanDry, TookUpTo, TookAll, Drained};

@@ -11,7 +11,8 @@ use std::test::Fail;
 const USAGE: &str =
     "! usage: hiphop play, compile, play_net, serve [--workers N], gen --seed N --size N\n";
 
-/// What a call with these words, parted by spaces, answers and writes. Its source has no bytes and fails at once.
+/// What a call with these words, parted by spaces, answers and writes. Its source has no bytes and fails at
+/// once.
 fn call(alloc: Global, line: &str) -> Result<(Cause, Vec<u8>), Fail> {
     let mut words = CommandLine::new(alloc);
     for word in line.split(' ') {

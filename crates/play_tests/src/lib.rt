@@ -47,7 +47,8 @@ pub fn hiphop_in_memory(
     ensures obeys { ObeysInMemory (promises_of hooks.now) words.now input.items result.text.items result.cause }
 
     // So the text of a call of `play` that is fine is the print of a legal log of the input,
-    ensures log { IsPlay words.now → result.cause ≡ Cause.Fine → IsLogText (promises_of hooks.now) input.items result.text.items [] }
+    ensures log { IsPlay words.now → result.cause ≡ Cause.Fine →
+        IsLogText (promises_of hooks.now) input.items result.text.items [] }
 
     // and that of a call of `gen` sums up what was played of the made text,
     ensures summed { (seed size : ℕ) → IsGen words.now seed size → result.cause ≡ Cause.Fine

@@ -1,4 +1,5 @@
-//! Random small programs, whose reactions by the engine are compared with those by the plain recursion of the definition.
+//! Random small programs, whose reactions by the engine are compared with those by the plain recursion of the
+//! definition.
 #![tactic(auto)]
 
 #[cfg(test)]

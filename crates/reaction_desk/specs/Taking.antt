@@ -15,9 +15,11 @@ pub record TookMore (old new : TakePass) (had has : List Answer) : Type 0 where
   pub took : Took old new had has more
   pub few : length has ≤ 4096
 
--- answers were taken, and one entry was added, whose answers are those that had waited and then those that were taken. Where they are
--- fewer than 4,096, the queue was empty at a moment of the call. Where memory ran out, no entry was added, and they wait
-pub record AddsEntry {N : Type 0} (of : List Answer → Event) (log more : List Entry) (had waits : List Answer) (old new : TakePass)
+-- answers were taken, and one entry was added, whose answers are those that had waited and then those that
+-- were taken. Where they are fewer than 4,096, the queue was empty at a moment of the call. Where memory ran
+-- out, no entry was added, and they wait
+pub record AddsEntry {N : Type 0} (of : List Answer → Event) (log more : List Entry)
+    (had waits : List Answer) (old new : TakePass)
     (out : Result Reply N) : Type 0 where
   pub taken : List Answer
   pub took : take_view new ≡ took_more (take_view old) taken

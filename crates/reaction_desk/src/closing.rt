@@ -1,5 +1,6 @@
 //! The beginning and the end of a desk.
-ghost use Rattle.std.specs.Prelude.{◌≡◌, ◌-◌, ◌+◌, ◌≤◌, ◌++◌, [], length, map, All, IfOk, vec_len, vec_capacity};
+ghost use Rattle.std.specs.Prelude.{◌≡◌, ◌-◌, ◌+◌, ◌≤◌, ◌++◌, [], length, map, All, IfOk, vec_len};
+ghost use Rattle.std.specs.Prelude.{vec_capacity};
 ghost use Rattle.reaction_run.specs.Legal.{events_of};
 ghost use Rattle.reaction_run.specs.Run.{final_state};
 ghost use Rattle.notify_inbox.specs.Views.{taker};

@@ -1,5 +1,6 @@
 //! Events of a machine whose log is kept.
-ghost use Rattle.std.specs.Prelude.{◌≡◌, ◌⊎◌, ◌+◌, ◌<◌, ◌≤◌, ◌^◌, ◌++◌, [], length, IfOk, OnOk, OnErr, vec_len, vec_capacity};
+ghost use Rattle.std.specs.Prelude.{◌≡◌, ◌⊎◌, ◌+◌, ◌<◌, ◌≤◌, ◌^◌, ◌++◌, [], length, IfOk, OnOk, OnErr};
+ghost use Rattle.std.specs.Prelude.{vec_len, vec_capacity};
 ghost use Rattle.reaction_run.specs.declared.event.Event.TheVariants.{React, Pump, Reset};
 ghost use Rattle.reaction_run.specs.Reacting.{InputsFit};
 ghost use Rattle.reaction_desk.specs.Adding.{IsAdded};

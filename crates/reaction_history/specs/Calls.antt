@@ -40,9 +40,10 @@ module _ {E B : Type 0} where
     pub spent : new.spent ≡ old.spent + 1
 
 module _ {M Place : Type 0} (state : M → State Place) (machine : Machine Place) where
-  -- a call that made an entry: what the seat has seen is a legal history, which begins with what it had seen and ends with this entry. Its
-  -- place is the seat's, beside those that it had
-  pub record HasAdded (old new : SeatView Entry (Opening M)) (of : List Answer → Event) (r : Reply) : Type 0 where
+  -- a call that made an entry: what the seat has seen is a legal history, which begins with what it had seen
+  -- and ends with this entry. Its place is the seat's, beside those that it had
+  pub record HasAdded (old new : SeatView Entry (Opening M)) (of : List Answer →
+      Event) (r : Reply) : Type 0 where
     pub first : Opening M
     pub start : old.start ≡ Some first
     pub same_start : new.start ≡ Some first
@@ -64,9 +65,10 @@ module _ {M Place : Type 0} (state : M → State Place) (machine : Machine Place
     pub told : Told (final_state machine (state first.machine) (events_of new.seen))
     pub turn : SpentOne old new
 
-  -- the end: the seat had all turns, and what it has seen begins the history, which is legal, leads to the state of the machine, and accounts
-  -- for each post
-  pub record HasClosed (v : SeatView Entry (Opening M)) (left_machine : M) (log : List Entry) (left : List Answer)
+  -- the end: the seat had all turns, and what it has seen begins the history, which is legal, leads to the
+  -- state of the machine, and accounts for each post
+  pub record HasClosed (v : SeatView Entry (Opening M)) (left_machine : M) (log : List Entry)
+      (left : List Answer)
       (passes : List (List (ℕ × Answer))) (posters : ℕ) : Type 0 where
     pub first : Opening M
     pub end : EndsWith v first log
@@ -74,8 +76,10 @@ module _ {M Place : Type 0} (state : M → State Place) (machine : Machine Place
     pub leads : ∥ state left_machine ≡ final_state machine (state first.machine) (events_of log) ∥₁
     pub posted : Posted log left passes posters
 
--- the machine had this interface and nothing waited in it, and the pass is the one that was made with this inbox
-pub record BeginsWith {M : Type 0} (G : Ghosts M) (inbox : Inbox) (interface : List SignalDecl) (b : Opening M) : Type 0 where
+-- the machine had this interface and nothing waited in it, and the pass is the one that was made with this
+-- inbox
+pub record BeginsWith {M : Type 0} (G : Ghosts M) (inbox : Inbox) (interface : List SignalDecl)
+    (b : Opening M) : Type 0 where
   pub takes_from : TakesFrom inbox b.pass
   pub taker : take_view b.pass ≡ taker (16 - posters_of inbox)
   pub signals : G.signals b.machine ≡ interface

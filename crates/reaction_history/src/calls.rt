@@ -1,5 +1,6 @@
 //! Turns at a shared machine, and posts to it.
-ghost use Rattle.std.specs.Prelude.{◌≡◌, ◌↔◌, ◌⊎◌, ◌<◌, ◌≤◌, ℕ, IsTrue, IfOk, IfErr, OnErr, IfSome, IfNone, MatchResult, length};
+ghost use Rattle.std.specs.Prelude.{◌≡◌, ◌↔◌, ◌⊎◌, ◌<◌, ◌≤◌, ℕ, IsTrue, IfOk, IfErr, OnErr, IfSome, IfNone};
+ghost use Rattle.std.specs.Prelude.{MatchResult, length};
 ghost use Rattle.turn_cell.specs.Lists.{Begins, RisesTo, Among};
 ghost use Rattle.turn_cell.specs.Views.{kept_half, given_half, joined};
 ghost use Rattle.turn_cell.specs.Calls.{view};
@@ -58,8 +59,8 @@ impl<M: Reactor + Drop> Shared<M> {
         }
     }
 
-    /// Reacts without inputs in a turn of the seat, where answers wait or the inbox holds some. Else the machine
-    /// is idle.
+    /// Reacts without inputs in a turn of the seat, where answers wait or the inbox holds some. Else the
+    /// machine is idle.
     pub fn pump<R: Wait>(
         &self,
         rt: &R,
@@ -101,7 +102,8 @@ impl<M: Reactor + Drop> Shared<M> {
         }
     }
 
-    /// Whether the id is settled in the state to which the history leads, in a turn of the seat. Makes no entry.
+    /// Whether the id is settled in the state to which the history leads, in a turn of the seat. Makes no
+    /// entry.
     pub fn settled<R: Wait>(
         &self,
         rt: &R,
@@ -144,8 +146,8 @@ impl<M: Reactor + Drop> Shared<M> {
         }
     }
 
-    /// Posts an answer. It takes no turn, so that it waits for no reaction. Full only where the inbox held 4,096
-    /// at a moment of this call. Takes no memory.
+    /// Posts an answer. It takes no turn, so that it waits for no reaction. Full only where the inbox held
+    /// 4,096 at a moment of this call. Takes no memory.
     pub fn post<R: Wait>(&self, rt: &R, pass: &mut PostPass, answer: Answer) -> Result<(), Full>
         requires { IsPostPassOf self.now.inbox pass.old }
         ensures own { IsPostPassOf self.now.inbox pass.new }

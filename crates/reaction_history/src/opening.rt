@@ -29,8 +29,8 @@ fn copy_signals(alloc: Global, signals: &[SignalDecl]) -> Result<Vec<SignalDecl>
 }
 
 impl<M: Reactor + Drop> Shared<M> {
-    /// A shared machine with an empty history, its first seat, which has 2^63 turns, and a pass for each poster.
-    /// Nothing waits in the machine.
+    /// A shared machine with an empty history, its first seat, which has 2^63 turns, and a pass for each
+    /// poster. Nothing waits in the machine.
     pub fn new(
         alloc: Global,
         machine: M,

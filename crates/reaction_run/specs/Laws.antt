@@ -12,7 +12,8 @@ use Rattle.reaction_run.specs.declared.event.Event.TheVariants.{Reset}
 use Rattle.reaction_run.specs.declared.reply.Reply.{Reply}
 use Rattle.reaction_run.specs.declared.reply.Reply.TheVariants as reply
 use Rattle.reaction_run.specs.Machine.{Machine, State}
-use Rattle.reaction_run.specs.Run.{replies, final_state, next_state, reply_of_reaction, after_reaction, refused, rules}
+use Rattle.reaction_run.specs.Run.{replies, final_state, next_state, reply_of_reaction, after_reaction}
+use Rattle.reaction_run.specs.Run.{refused, rules}
 use Rattle.reaction_run.specs.Legal.{took_in, tried, is_done}
 
 -- the ids that effects tell to be started
@@ -44,11 +45,13 @@ module _ {Place : Type 0} (M : Machine Place) where
   abbrev pub StartsCount : Type 0
   StartsCount = (S : State Place) (events : List Event) → CountsFrom S.last (started_in (replies M S events))
 
-  -- each answer is tried by at most one accepted reaction: those tried and those that wait are those taken, each once and in order
+  -- each answer is tried by at most one accepted reaction: those tried and those that wait are those taken,
+  -- each once and in order
   abbrev pub TriedOnce : Type 0
   TriedOnce =
       (S : State Place) (events : List Event)
-      → tried S.pending events (replies M S events) ++ (final_state M S events).pending ≡ S.pending ++ took_in events
+      → tried S.pending events (replies M S events) ++ (final_state M S events).pending ≡
+      S.pending ++ took_in events
 
   -- a refused reaction changes nothing but that what it took waits
   abbrev pub RefusalKeeps : Type 0
@@ -66,4 +69,5 @@ module _ {Place : Type 0} (M : Machine Place) where
       (S : State Place) (events : List Event) (id : ℕ) → IsGone S id → IsGone (final_state M S events) id
 
   abbrev pub GoneIsStale : Type 0
-  GoneIsStale = (S : State Place) (a : Answer) → IsGone S a.id → 1 ≤ a.id → verdict (rules M S) S.running a ≡ Drops Stale
+  GoneIsStale = (S : State Place) (a : Answer) → IsGone S a.id → 1 ≤ a.id →
+      verdict (rules M S) S.running a ≡ Drops Stale

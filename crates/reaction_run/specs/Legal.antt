@@ -1,4 +1,5 @@
--- A log is legal from a state of a machine where its replies are those of a run of its events from there. (This project's own.)
+-- A log is legal from a state of a machine where its replies are those of a run of its events from there.
+-- (This project's own.)
 use Rattle.std.specs.Prelude.{◌≡◌, Bool, true, false, if◌then◌else◌, List, [], ◌∷◌, ◌++◌, map}
 use Rattle.exec_instance.specs.declared.answer.Answer.{Answer}
 use Rattle.reaction_run.specs.declared.event.Event.{Event}
@@ -39,10 +40,11 @@ abbrev pub is_done : Reply → Bool
 is_done (reply.Done d) = true
 is_done _ = false
 
--- the answers that the accepted reactions of the events tried, in order, where these wait at first; and those that are left. Both are
--- read off the events and the replies alone
+-- the answers that the accepted reactions of the events tried, in order, where these wait at first; and those
+-- that are left. Both are read off the events and the replies alone
 abbrev pub tried : List Answer → List Event → List Reply → List Answer
-tried pending (e ∷ es) (r ∷ rs) = if is_done r then pending ++ took_by e ++ tried [] es rs else tried (pending ++ took_by e) es rs
+tried pending (e ∷ es) (r ∷ rs) =
+    if is_done r then pending ++ took_by e ++ tried [] es rs else tried (pending ++ took_by e) es rs
 tried pending _ _ = []
 
 abbrev pub left : List Answer → List Event → List Reply → List Answer

@@ -1,5 +1,6 @@
--- A machine: what its step does in a reaction, and the state in which it takes events. Nothing here says how a reaction is computed:
--- the constructive semantics and a net are two such steps. (Reactive machines after HipHop.js; the rest is this project's own.)
+-- A machine: what its step does in a reaction, and the state in which it takes events. Nothing here says how
+-- a reaction is computed: the constructive semantics and a net are two such steps. (Reactive machines after
+-- HipHop.js; the rest is this project's own.)
 use Rattle.std.specs.Prelude.{ℕ, Bool, Option, List, []}
 use Rattle.hh_base.specs.declared.value.Value.{Value}
 use Rattle.hh_base.specs.declared.value.Kind.{Kind}
@@ -10,8 +11,8 @@ use Rattle.exec_instance.specs.declared.instance.Instance.{Instance}
 use Rattle.exec_instance.specs.declared.change.Change.{Change}
 use Rattle.reaction_run.specs.declared.event.Input.{Input}
 
--- a reaction that completes: the present outputs, whether the program ended with 0, what happened to each instance, and the place
--- where the machine is then
+-- a reaction that completes: the present outputs, whether the program ended with 0, what happened to each
+-- instance, and the place where the machine is then
 pub record Completed (Place : Type 0) : Type 0 where
   pub outs : List (ℕ × Value)
   pub ended : Bool
@@ -25,7 +26,8 @@ pub data Outcome (Place : Type 0) : Type 0 where
   Faulted : (at : Pos) (kind : FaultKind) → Outcome Place
   Completes : (completed : Completed Place) → Outcome Place
 
--- what a machine names of its own. A place has the program, where its control rests, and the last statuses and values of its signals
+-- what a machine names of its own. A place has the program, where its control rests, and the last statuses
+-- and values of its signals
 pub record Machine (Place : Type 0) : Type 0 where
   -- the kinds that the program's bodies answer
   pub kinds : Place → List Kind

@@ -37,7 +37,8 @@ module _ {Place : Type 0} (M : Machine Place) where
       reply.Done (record {
         outs = c.outs;
         ended = c.ended;
-        effects = drops (rules S) S.running (S.pending ++ took) ++ effects S.last c.changes (with_answers S took);
+        effects = drops (rules S) S.running (S.pending ++ took) ++
+            effects S.last c.changes (with_answers S took);
       })
 
   -- a refused reaction leaves everything as it was, but what it took waits
@@ -46,17 +47,24 @@ module _ {Place : Type 0} (M : Machine Place) where
 
   abbrev pub state_after : State Place → List Answer → Outcome Place → State Place
   state_after S took (Completes c) =
-      record { place = c.next; running = advanced S.last c.changes (with_answers S took); pending = []; last = last_after S.last c.changes }
+      record {
+        place = c.next;
+        running = advanced S.last c.changes (with_answers S took);
+        pending = [];
+        last = last_after S.last c.changes;
+      }
   state_after S took _ = refused S took
 
   abbrev pub is_worn : State Place → Bool
   is_worn S = M.wants_ids S.place && nat_lt last_limit S.last
 
   abbrev pub reply_of_reaction : State Place → List Input → List Answer → Reply
-  reply_of_reaction S inputs took = if is_worn S then reply.Worn S.last else reply_to S took (outcome S inputs took)
+  reply_of_reaction S inputs took =
+      if is_worn S then reply.Worn S.last else reply_to S took (outcome S inputs took)
 
   abbrev pub after_reaction : State Place → List Input → List Answer → State Place
-  after_reaction S inputs took = if is_worn S then refused S took else state_after S took (outcome S inputs took)
+  after_reaction S inputs took =
+      if is_worn S then refused S took else state_after S took (outcome S inputs took)
 
   -- one event
   abbrev pub is_none_waiting : List Answer → Bool
@@ -68,7 +76,8 @@ module _ {Place : Type 0} (M : Machine Place) where
 
   abbrev pub reply_of : State Place → Event → Reply
   reply_of S (React inputs took) = reply_of_reaction S inputs took
-  reply_of S (Pump took) = if is_none_waiting (S.pending ++ took) then reply.Idle else reply_of_reaction S [] took
+  reply_of S (Pump took) =
+      if is_none_waiting (S.pending ++ took) then reply.Idle else reply_of_reaction S [] took
   reply_of S Reset = reply.Reset (map (killed S) S.running)
 
   abbrev pub next_state : State Place → Event → State Place

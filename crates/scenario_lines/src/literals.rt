@@ -1,5 +1,6 @@
 //! Ids and values, as a scenario writes them.
-ghost use Rattle.std.specs.Prelude.{◌≡◌, ◌↔◌, ℕ, false, true, IfOk, IfSome, IsTrue, MatchOption, Some, List, slice_index};
+ghost use Rattle.std.specs.Prelude.{◌≡◌, ◌↔◌, ℕ, false, true, IfOk, IfSome, IsTrue, MatchOption, Some, List};
+ghost use Rattle.std.specs.Prelude.{slice_index};
 ghost use Rattle.std.specs.Str.{is_utf8};
 ghost use Rattle.hh_base.specs.Bytes.{plus};
 ghost use Rattle.hh_base.specs.declared.value.Value.{Value as AValue};

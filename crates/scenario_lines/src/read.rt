@@ -8,7 +8,8 @@ ghost use Rattle.scenario_lines.specs.declared.line.Mode.{Mode as AMode};
 ghost use Rattle.scenario_lines.specs.Interface.{HasNames};
 ghost use Rattle.scenario_lines.specs.Lines.{begins_with, is_skipped, parts_of};
 ghost use Rattle.scenario_lines.specs.Reader.{IsTheLine, TakesPart, command_word};
-ghost use Rattle.scenario_lines.specs.Scenario.{AreInputs, IsFirstRefused, IsInput, IsLine, IsRefused, IsScenario, answer_word};
+ghost use Rattle.scenario_lines.specs.Scenario.{AreInputs, IsFirstRefused, IsInput, IsLine, IsRefused};
+ghost use Rattle.scenario_lines.specs.Scenario.{IsScenario, answer_word};
 ghost use Rattle.scenario_lines.specs.Tells.{Tells};
 
 use crate::command::{Command, command_of};
@@ -98,7 +99,8 @@ fn read_react(
 ) -> Result<Option<Line>, NoMemory>
     requires noted_each { length noted.old ≡ length index.now }
     requires noted_before { All (λ n. n < number) noted.old }
-    ensures line { (mode : AMode) → IfOk result (Tells (IsLine mode index.now (codes "react" ∷ parts_of rest.now))) }
+    ensures line { (mode : AMode) →
+        IfOk result (Tells (IsLine mode index.now (codes "react" ∷ parts_of rest.now))) }
     ensures noted { OnOk result (All (λ n. n ≤ number) noted.new) }
 {
     match read_inputs(alloc, rest, number, index, noted)? {
@@ -109,7 +111,8 @@ fn read_react(
 
 /// The line whose command is `work`.
 fn read_work(rest: &[u8], mode: Mode) -> Option<Line>
-    ensures { (signals : List ADeclaration) → Tells (IsLine mode signals (codes "work" ∷ parts_of rest.now)) result }
+    ensures { (signals : List ADeclaration) →
+        Tells (IsLine mode signals (codes "work" ∷ parts_of rest.now)) result }
 {
     if mode == Mode::Serve {
         return None;
@@ -138,14 +141,16 @@ fn read_answer(alloc: Global, rest: &[u8], last: bool) -> Result<Option<Line>, N
 
 /// The line whose command is `reset`.
 fn read_reset(rest: &[u8]) -> Option<Line>
-    ensures { (mode : AMode) (signals : List ADeclaration) → Tells (IsLine mode signals (codes "reset" ∷ parts_of rest.now)) result }
+    ensures { (mode : AMode) (signals : List ADeclaration) →
+        Tells (IsLine mode signals (codes "reset" ∷ parts_of rest.now)) result }
 {
     has_none(rest).then_some(Line::Reset)
 }
 
 /// The line whose command is `settle`.
 fn read_settle(rest: &[u8], mode: Mode) -> Option<Line>
-    ensures { (signals : List ADeclaration) → Tells (IsLine mode signals (codes "settle" ∷ parts_of rest.now)) result }
+    ensures { (signals : List ADeclaration) →
+        Tells (IsLine mode signals (codes "settle" ∷ parts_of rest.now)) result }
 {
     if mode == Mode::Play {
         return None;

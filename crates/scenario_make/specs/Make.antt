@@ -1,5 +1,5 @@
--- A program for load, with its scenario, made from a seed. (This project's own; the sequence of numbers is the linear congruential
--- one of Knuth's MMIX.)
+-- A program for load, with its scenario, made from a seed. (This project's own; the sequence of numbers is
+-- the linear congruential one of Knuth's MMIX.)
 use Rattle.std.specs.Prelude.{ℕ, zero, suc, ◌+◌, ◌*◌, ◌/◌, ◌%◌, ◌^◌, ◌==◌, cond, List, [], ◌++◌, codes}
 
 -- the number behind a number of 64 bits
@@ -41,5 +41,6 @@ lines_up_to (suc last) line = lines_up_to last line ++ line (last + 1)
 -- the text: a module that is a fork of so many branches, and its scenario of 100 reactions
 unfoldable pub made : ℕ → ℕ → List ℕ
 made seed size =
-    codes "module Gen(in A, out N: int combine plus) {\n" ++ lines_up_to size (branch_line seed) ++ codes "}\n%% scenario\n"
+    codes "module Gen(in A, out N: int combine plus) {\n" ++ lines_up_to size (branch_line seed) ++
+    codes "}\n%% scenario\n"
     ++ lines_up_to 100 reaction_line

@@ -38,7 +38,8 @@ fn word_of(before: u32) -> &'static str
 
 /// Adds a branch, which begins with this word.
 fn add_branch(word: &str, number: u64, text: &mut Vec<u8>) -> Result<(), NoMemory>
-    ensures { OnOk result (text.new.items ≡ text.old.items ++ (word.now ++ codes " { " ++ spec.chosen number ++ codes " }\n")) }
+    ensures { OnOk result (text.new.items ≡ text.old.items ++
+        (word.now ++ codes " { " ++ spec.chosen number ++ codes " }\n")) }
 {
     text.extend_from_slice(word.as_bytes())?;
     text.extend_from_slice(b" { ")?;
@@ -72,8 +73,9 @@ fn add_reactions(text: &mut Vec<u8>) -> Result<(), NoMemory>
     Ok(())
 }
 
-/// A module that is a fork of `size` branches, each one of three that the numbers from the seed on choose, and a
-/// scenario of 100 reactions, of which each second one has the input `A`. With no branches the block is empty.
+/// A module that is a fork of `size` branches, each one of three that the numbers from the seed on choose,
+/// and a scenario of 100 reactions, of which each second one has the input `A`. With no branches the block is
+/// empty.
 pub fn make(alloc: Global, seed: u32, size: u32) -> Result<Vec<u8>, NoMemory>
     ensures made { IfOk result (λ text. text.items ≡ spec.made seed size) }
     ensures few { IfOk result (λ text. length text.items ≤ 8192 + 64 * size) }

@@ -1,5 +1,6 @@
-//! Storing the hooks `text_size` and `same_text`. A boxed closure may not be handed out by the function that makes it, so
-//! callers make the two closures, by `text_size` of host_hooks and by `compare`, and hand them in.
+//! Storing the hooks `text_size` and `same_text`. A boxed closure may not be handed out by the function that
+//! makes it, so callers make the two closures, by `text_size` of host_hooks and by `compare`, and hand them
+//! in.
 
 ghost use Rattle.std.specs.Prelude.{◌≡◌, ◌++◌, ◌∷◌, [], OnOk};
 ghost use Rattle.hh_base.specs.declared.value.Kind.TheVariants as kind;

@@ -1,5 +1,5 @@
 -- The bodies of modules, and runs that are all of a body.
-use Rattle.std.proofs.Common.{◌≡◌, ℕ, zero, suc, ◌+◌, ◌<◌, ◌≤◌, max, Option, Some, None, List, [], ◌∷◌, refl, sym, ap}
+use Rattle.std.proofs.Common.{◌≡◌, ℕ, zero, suc, ◌≤◌, Option, Some, None, List, [], ◌∷◌, refl, ap}
 use Rattle.std.proofs.Common.{subst, ◌∙◌, arith, Bor}
 use Rattle.std.specs.Prelude.{slice_get, IfSome}
 use Rattle.module_tree.specs.declared.source.BlockNode.{BlockNode, size-BlockNode}
@@ -10,7 +10,7 @@ use Rattle.kernel_expand.specs.Expansion.{no_module}
 use Rattle.kernel_expand.specs.Numbering.{Piece, numbering}
 use Rattle.statement_build.specs.declared.chain.Body.{Body}
 use Rattle.statement_build.specs.declared.chain.Level.{Level}
-use Rattle.statement_build.specs.Levels.{largest, modules_in, IsBelow}
+use Rattle.statement_build.specs.Levels.{largest, IsBelow}
 
 module _ (modules : List (ModuleNode ℕ)) (m : ℕ) where
   abbrev runs : ℕ → ℕ → Piece

@@ -1,5 +1,5 @@
 -- What stands round a body, as the rows of its statement say it.
-use Rattle.std.proofs.Common.{◌≡◌, ℕ, List, ◌∷◌, Option, true, false, None, Some, refl, sym, ap, ◌∙◌, Bor, Vec, Global}
+use Rattle.std.proofs.Common.{◌≡◌, ℕ, List, ◌∷◌, Option, true, false, None, Some, sym, ap, ◌∙◌, Bor, Vec, Global}
 use Rattle.std.specs.List.{range_with_len}
 use Rattle.std.specs.Prelude.{length}
 use Rattle.hh_base.specs.declared.value.Pos.{Pos}

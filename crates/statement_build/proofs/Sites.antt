@@ -1,7 +1,7 @@
 -- An async site more, whose signals go by their numbers.
 use Rattle.std.proofs.Common.{◌≡◌, ℕ, List, [], ◌∷◌, ◌++◌, map, refl, ap, ◌∙◌}
 use Rattle.std.proofs.lemmas.List.{map_push}
-use Rattle.host_expr.specs.Expression.{Expression, expression_of}
+use Rattle.host_expr.specs.Expression.{expression_of}
 use Rattle.module_tree.specs.declared.source.ExprAt.{ExprAt}
 use Rattle.hh_term.specs.declared.program.Site.{Site}
 use Rattle.hh_term.specs.Kernel.{AsyncSite}

@@ -1,5 +1,5 @@
 -- What a statement with one body is round it. (This project's own.)
-use Rattle.std.specs.Prelude.{ℕ, Bool, true, false, Option, None, Some}
+use Rattle.std.specs.Prelude.{Bool, true, false, Option, None, Some}
 use Rattle.hh_base.specs.declared.value.Pos.{Pos}
 use Rattle.hh_term.specs.declared.term.Term.{Term}
 use Rattle.hh_term.specs.Placed.{Placed, Nothing, Pause, If, Seq, Loop, Trap, placed_term}

@@ -6,7 +6,8 @@ ghost use Rattle.std.specs.List.{range_with_len};
 ghost use Rattle.hh_term.specs.Views.{site_of};
 ghost use Rattle.statement_build.specs.Building.{numbered_of, declared, declared_all};
 ghost use Rattle.kernel_expand.specs.Interpretation.{test_of, value_of};
-ghost use Rattle.kernel_expand.specs.Numbering.{number_of, in_numbers, value_in_numbers, local_signal, counter_signal};
+ghost use Rattle.kernel_expand.specs.Numbering.{number_of, in_numbers, value_in_numbers, local_signal};
+ghost use Rattle.kernel_expand.specs.Numbering.{counter_signal};
 ghost use Rattle.kernel_expand.specs.Numbering.{with_place, with_signal, with_site, with_trap, site_in_numbers};
 ghost use Rattle.kernel_expand.specs.Numbering.{result_in_numbers, inside_run, first_or_default};
 

@@ -75,7 +75,8 @@ fn only_run<'a>(body: Body<'a>) -> Option<Passage<'a>>
 fn passes_to<'a>(body: Option<Body<'a>>) -> Option<(Level<'a>, Passage<'a>)>
     ensures means { (a : AAround) (n : ANumbered) (pos : APos) → IfSome result (λ p. body_piece body.entry a n
         ≡ (numbering (runs_in p.0) pos).run p.1.place p.1.bindings.now a n) }
-    ensures level { IfSome result (λ p. (block : Bor (ABlock ℕ)) × (body.entry ≡ Some (record { level = p.0; block = block }))) }
+    ensures level { IfSome result
+        (λ p. (block : Bor (ABlock ℕ)) × (body.entry ≡ Some (record { level = p.0; block = block }))) }
 {
     match body {
         Some(body) => match only_run(body) {
@@ -87,8 +88,8 @@ fn passes_to<'a>(body: Option<Body<'a>>) -> Option<(Level<'a>, Passage<'a>)>
 }
 
 impl Builder {
-    /// The body of the module of this place. Where it is only a run, it is the body of the module that is run, so
-    /// that a long chain of runs takes no stack.
+    /// The body of the module of this place. Where it is only a run, it is the body of the module that is
+    /// run, so that a long chain of runs takes no stack.
     pub fn follow<'a>(
         &mut self,
         alloc: Global,

@@ -1,4 +1,5 @@
-//! What each statement of a linked text comes to in the kernel, but for its blocks, and what is numbered meanwhile.
+//! What each statement of a linked text comes to in the kernel, but for its blocks, and what is numbered
+//! meanwhile.
 #![tactic(auto)]
 
 pub mod around;

@@ -329,7 +329,8 @@ impl Builder {
 }
 
 fn repeated(at: At, whether: bool, before: Option<Term>, body: Term) -> Result<Term, NoMemory>
-    ensures { IfOk result (λ t. placed_term t ≡ behind at.pos before (looped at.pos whether (placed_term body))) }
+    ensures { IfOk result
+        (λ t. placed_term t ≡ behind at.pos before (looped at.pos whether (placed_term body))) }
 {
     match looped(at, whether, body) {
         Ok(whole) => Ok(behind(at, before, whole)?),

@@ -310,7 +310,8 @@ impl Builder {
 
     /// A body in a trap of the text.
     fn trap<'a>(&mut self, at: At, around: &Around) -> Result<Inner<'a>, NoMemory>
-        ensures { (f : ℕ → Piece) (p : Piece) → IfOk result (λ w. (numbering f at.pos).named_trap p (around_of around.now)
+        ensures { (f : ℕ → Piece) (p : Piece) →
+            IfOk result (λ w. (numbering f at.pos).named_trap p (around_of around.now)
             (numbered_of self.old) ≡ inside at.pos w p (numbered_of self.new)) }
     {
         let place = self.open_trap()?;
@@ -334,7 +335,8 @@ impl Builder {
 
     /// A body that runs for ever.
     fn looped<'a>(&self, at: At, around: &Around) -> Result<Wrap<'a>, NoMemory>
-        ensures { (f : ℕ → Piece) (p : Piece) → IfOk result (λ w. (numbering f at.pos).loop p (around_of around.now)
+        ensures { (f : ℕ → Piece) (p : Piece) →
+            IfOk result (λ w. (numbering f at.pos).loop p (around_of around.now)
             (numbered_of self.now) ≡ wrapped at.pos w p (numbered_of self.now)) }
     {
         let inner = self.alone(at, around)?;

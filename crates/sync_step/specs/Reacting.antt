@@ -68,10 +68,12 @@ control_by last None = Ended
 abbrev pub Names : Kernel → Option ℕ → Option (List ℕ) → Type 0
 Names K None name = name ≡ None
 Names K (Some t) name =
-    (s : ℕ) (d : SignalDecl) → slice_get K.signals s ≡ Some d → d.pos.0 ≡ signal_place (table_of K) t → name ≡ d.name
+    (s : ℕ) (d : SignalDecl) → slice_get K.signals s ≡ Some d → d.pos.0 ≡ signal_place (table_of K) t →
+    name ≡ d.name
 
 -- what was noted is told
-pub record Concluded (K : Kernel) (last : ℕ) (ran : Ran) (emitted : List Emitted) (pass : LastPass) (a : Stepped) :
+pub record Concluded (K : Kernel) (last : ℕ) (ran : Ran) (emitted : List Emitted)
+    (pass : LastPass) (a : Stepped) :
     Type 0 where
   pub signals : map now_in a.signals.items
       ≡ map (now_at (env_of pass.cells.signals.items) emitted) (range_with_len 0 K.interface)

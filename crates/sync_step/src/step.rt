@@ -34,7 +34,8 @@ pub fn step(
 ) -> Result<StepEnd, NoMemory>
     requires before { length before.now.cells.items ≡ (kernel_of program.now).interface }
     requires inputs { NoneTwice inputs.now }
-    ensures { IfOk result (Tells (kernel_of program.now) (reaction (kernel_of program.now) (control_in marked.now)
+    ensures { IfOk result
+        (Tells (kernel_of program.now) (reaction (kernel_of program.now) (control_in marked.now)
         (lasts_of before.now.cells.items) inputs.now last)) }
 {
     let settled = settle(alloc, program, marked, before, inputs)?;

@@ -82,7 +82,8 @@ fn position_of(program: &Program, signal: u32) -> u32
 
 /// The name of the signals that are declared at a position.
 fn name_at(alloc: Global, program: &Program, pos: u32) -> Result<Option<Name>, NoMemory>
-    ensures { IfOk result (λ n. (s : ℕ) (d : ASignalDecl) → slice_get (kernel_of program.now).signals s ≡ Some d →
+    ensures { IfOk result (λ n. (s : ℕ) (d : ASignalDecl) →
+        slice_get (kernel_of program.now).signals s ≡ Some d →
         d.pos.0 ≡ pos → n ≡ d.name) }
 {
     for declared in program.signals() {

@@ -10,7 +10,8 @@ ghost use Rattle.exec_instance.specs.declared.answer.Answer.{Answer as AnAnswer}
 ghost use Rattle.exec_instance.specs.Effects.{effects, advanced, last_after};
 ghost use Rattle.reaction_run.specs.declared.event.Input.{Input as AnInput};
 ghost use Rattle.reaction_run.specs.declared.reply.Reply.TheVariants.{Done as IsDone};
-ghost use Rattle.reaction_run.specs.Run.{is_worn, reply_to, state_after, outcome, reply_of_reaction, after_reaction, last_limit};
+ghost use Rattle.reaction_run.specs.Run.{is_worn, reply_to, state_after, outcome, reply_of_reaction};
+ghost use Rattle.reaction_run.specs.Run.{after_reaction, last_limit};
 ghost use Rattle.status_rounds.specs.Before.{lasts_of};
 ghost use Rattle.sync_step.specs.Told.{Tells};
 ghost use Rattle.term_machine.specs.ConstructiveMachine.{constructive, input_pair, body_answers, has_sites};
@@ -99,7 +100,11 @@ fn completed(
           effects = told.items ++ effects instances.last finish.changes.items instances.instances;
         }))
         (record {
-          place = record { kernel = K; control = control_of finish.next; lasts = lasts_of finish.lasts.cells.items };
+          place = record {
+            kernel = K;
+            control = control_of finish.next;
+            lasts = lasts_of finish.lasts.cells.items;
+          };
           running = advanced instances.last finish.changes.items instances.instances;
           pending = [];
           last = last_after instances.last finish.changes.items;

@@ -20,8 +20,8 @@ module _ {E B : Type 0} where
   abbrev pub StartIs : (B → Type 0) → SeatView E B → Type 0
   StartIs P v = (c : B) → v.start ≡ Some c → P c
 
-  -- one turn: the history before it begins with what the seat had seen, and the seat has seen the one after it. R holds of
-  -- the start and of both
+  -- one turn: the history before it begins with what the seat had seen, and the seat has seen the one after
+  -- it. R holds of the start and of both
   pub record TookTurn (R : B → List E → List E → Type 0) (old new : SeatView E B) : Type 0 where
     pub left : 0 < old.allowance
     pub before : List E
@@ -32,8 +32,8 @@ module _ {E B : Type 0} where
     pub job : R first before new.seen
     pub view : new ≡ with_turn old before new.seen
 
-  -- the end of a history: the seat had all turns, what it has seen begins the history, its own places are all places of it,
-  -- each once, and there are no more entries than turns were spent
+  -- the end of a history: the seat had all turns, what it has seen begins the history, its own places are all
+  -- places of it, each once, and there are no more entries than turns were spent
   pub record EndsWith (v : SeatView E B) (first : B) (history : List E) : Type 0 where
     pub all : v.allowance + v.spent ≡ 2 ^ 63
     pub start : v.start ≡ Some first

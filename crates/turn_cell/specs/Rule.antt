@@ -1,5 +1,5 @@
--- The rule of the turns: what holds of the two words, the slot and all views between any two steps. Word 0 is the ticket that
--- is served, word 1 the next ticket, and slot 0 has the value. (This project's own.)
+-- The rule of the turns: what holds of the two words, the slot and all views between any two steps. Word 0 is
+-- the ticket that is served, word 1 the next ticket, and slot 0 has the value. (This project's own.)
 use Rattle.std.specs.Prelude.{◌≡◌, ℕ, ◌+◌, ◌^◌, ◌<◌, ◌≤◌, ◌⊎◌, List, [], ◌∷◌, length, Option, Some, None}
 use mathlib.Core.Option as m
 use lib.ListN.{get_elem?}
@@ -27,7 +27,8 @@ module _ {E : Type 0} where
   HasTicket (Waiting mine) t = mine ≡ t
   HasTicket (InTurn mine before) t = mine ≡ t
 
-  -- a ticket lies from the one that is served to below the next one, and the one in turn is served, with the current history
+  -- a ticket lies from the one that is served to below the next one, and the one in turn is served, with the
+  -- current history
   abbrev pub StageFits : ℕ → ℕ → List E → Stage E → Type 0
   StageFits serving ticket current Outside = Unit {0}
   StageFits serving ticket current (Waiting t) = (serving ≤ t) × (t < ticket)
@@ -61,7 +62,8 @@ module _ {E B : Type 0} where
   abbrev pub allowance_of : SeatView E B → ℕ
   allowance_of v = v.allowance
 
-  -- one view: its places lie in what was seen, which begins the current history, and are no more than the turns that were spent
+  -- one view: its places lie in what was seen, which begins the current history, and are no more than the
+  -- turns that were spent
   pub record ViewFits (start : B) (serving ticket : ℕ) (current : List E) (v : SeatView E B) : Type 0 where
     pub starts : (v.start ≡ Some start) ⊎ (v.start ≡ None)
     pub seen : Begins v.seen current
@@ -84,7 +86,8 @@ module _ {E B : Type 0} where
 
   module _ {T : Type 0} (story : T → List E) (begins : T → B) where
     -- the value is at home and stands for the current history, and no view is in turn
-    pub record IsHome (start : B) (current : List E) (homes : List (m.Option (Option T))) (turns : ℕ) : Type 0 where
+    pub record IsHome (start : B) (current : List E) (homes : List (m.Option (Option T)))
+        (turns : ℕ) : Type 0 where
       pub value : T
       pub lies : homes ≡ m.some (Some value) ∷ []
       pub stands : story value ≡ current
@@ -94,15 +97,17 @@ module _ {E B : Type 0} where
     abbrev pub Lies : B → List E → List (m.Option (Option T)) → ℕ → Type 0
     Lies start current homes turns = IsHome start current homes turns ⊎ IsOut homes turns
 
-    -- all views: no two have one ticket or one place. Added up, tickets that are out follow the one that is served, places are as
-    -- many as entries, spent turns are the ticket that is served, and turns that are left and the next ticket are 2^63
+    -- all views: no two have one ticket or one place. Added up, tickets that are out follow the one that is
+    -- served, places are as many as entries, spent turns are the ticket that is served, and turns that are
+    -- left and the next ticket are 2^63
     pub record IsTurnState (start : B) (s : State (Option T) (SeatView E B)) : Type 0 where
       pub serving : ℕ
       pub ticket : ℕ
       pub current : List E
       pub words : s.words ≡ serving ∷ ticket ∷ []
       pub home : Lies start current s.homes (total turns_of s.views)
-      pub each : (i : ℕ) (v : SeatView E B) → get_elem? s.views i ≡ m.some v → ViewFits start serving ticket current v
+      pub each : (i : ℕ) (v : SeatView E B) → get_elem? s.views i ≡ m.some v →
+          ViewFits start serving ticket current v
       pub tickets : Differ TicketOf s.views
       pub places : Differ PlaceOf s.views
       pub drawn : serving + total tickets_of s.views ≡ ticket

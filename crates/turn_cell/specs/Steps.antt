@@ -1,4 +1,5 @@
--- What each step of a seat tells it, with its view and the slots that it holds before and after. (This project's own.)
+-- What each step of a seat tells it, with its view and the slots that it holds before and after. (This
+-- project's own.)
 use Rattle.std.specs.Prelude.{◌≡◌, ◌≢◌, ℕ, ◌+◌, ◌≤◌, ◌^◌, List, [], ◌∷◌, length, Option, Some, None}
 use Rattle.atomic_table.specs.Table.{Me, Step}
 use Rattle.turn_cell.specs.declared.view.SeatView.{SeatView}
@@ -26,10 +27,12 @@ module _ {E B T : Type 0} where
   unrest me = length me.1 + tickets_at me.0.stage + length me.0.note + startless me.0.start
 
   -- the next ticket is drawn
-  abbrev pub DrawsTicket : Step (Option T) → Me (Option T) (SeatView E B) → ℕ → Me (Option T) (SeatView E B) → Type 0
+  abbrev pub DrawsTicket : Step (Option T) → Me (Option T) (SeatView E B) → ℕ →
+      Me (Option T) (SeatView E B) → Type 0
   DrawsTicket st old found new = new ≡ (with_ticket old.0 found, old.1)
 
-  -- the note is cleared: each of its lists begins what was seen. The seat's own places rise, and lie in what was seen
+  -- the note is cleared: each of its lists begins what was seen. The seat's own places rise, and lie in what
+  -- was seen
   pub record ClearsNote (st : Step (Option T)) (old : Me (Option T) (SeatView E B))
       (found : ℕ) (new : Me (Option T) (SeatView E B)) : Type 0 where
     pub cleared : new ≡ (without_note old.0, old.1)
@@ -38,7 +41,8 @@ module _ {E B T : Type 0} where
     pub few : old.0.allowance + old.0.spent ≤ 2 ^ 63
 
   -- the value goes home, and the next ticket is served
-  abbrev pub LeavesTurn : (T → List E) → Step (Option T) → Me (Option T) (SeatView E B) → ℕ → Me (Option T) (SeatView E B) → Type 0
+  abbrev pub LeavesTurn : (T → List E) → Step (Option T) → Me (Option T) (SeatView E B) →
+      ℕ → Me (Option T) (SeatView E B) → Type 0
   LeavesTurn story st old found new =
       (t : ℕ) (before : List E) (value : T) → old.0.stage ≡ InTurn t before → old.1 ≡ (0, Some value) ∷ []
       → new ≡ (after_turn old.0 before (story value), [])

@@ -1,5 +1,6 @@
 //! What is done with a cell.
-ghost use Rattle.std.specs.Prelude.{◌≡◌, ◌↔◌, ◌⊎◌, ℕ, [], length, ◌<◌, ◌≤◌, ◌+◌, ◌^◌, Some, IfOk, IfErr, IfSome, IfNone};
+ghost use Rattle.std.specs.Prelude.{◌≡◌, ◌↔◌, ◌⊎◌, ℕ, [], length, ◌<◌, ◌≤◌, ◌+◌, ◌^◌, Some, IfOk, IfErr};
+ghost use Rattle.std.specs.Prelude.{IfSome, IfNone};
 ghost use Rattle.turn_cell.specs.Lists.{Begins, RisesTo, Among};
 ghost use Rattle.turn_cell.specs.Views.{first_view, kept_half, given_half, joined};
 ghost use Rattle.turn_cell.specs.Calls.{view, IsSeatOf, StartIs, TookTurn, EndsWith};

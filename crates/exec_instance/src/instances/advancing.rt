@@ -1,9 +1,13 @@
 //! What a reaction does to the running instances.
 
-ghost use Rattle.std.specs.Prelude.{◌≡◌, ◌<◌, ◌≤◌, ◌++◌, ◌^◌, ℕ, Some, None, List, IfOk, OnOk, OnErr, IsTrue, ◌↔◌, count_by, MatchOption, map, slice_get, length, option_map, if◌then◌else◌, ◌+◌, vec_len, vec_capacity, drop, not, ◌||◌, ◌&&◌};
+ghost use Rattle.std.specs.Prelude.{◌≡◌, ◌<◌, ◌≤◌, ◌++◌, ◌^◌, ℕ, Some, None, List, IfOk, OnOk, OnErr, IsTrue};
+ghost use Rattle.std.specs.Prelude.{◌↔◌, count_by, MatchOption, map, slice_get, length, option_map};
+ghost use Rattle.std.specs.Prelude.{if◌then◌else◌, ◌+◌, vec_len, vec_capacity, drop, not, ◌||◌, ◌&&◌};
 ghost use Rattle.std.specs.Option.{option_copied, option_to_list};
 ghost use Rattle.exec_instance.specs.Changes.{change_of, found_in};
-ghost use Rattle.exec_instance.specs.Effects.{takes_id, effect_in, with_change, row_of, old_effects, effects, changed, after_change, kept, born, started, last_after, advanced};
+ghost use Rattle.exec_instance.specs.Effects.{takes_id, effect_in, with_change, row_of, old_effects, effects};
+ghost use Rattle.exec_instance.specs.Effects.{changed, after_change, kept, born, started, last_after};
+ghost use Rattle.exec_instance.specs.Effects.{advanced};
 
 use super::Instances;
 use crate::change::Change;
@@ -211,7 +215,8 @@ fn change_instance(instance: &mut Instance, change: &Change)
 
 /// Changes the instance if it runs on, and tells whether it does.
 fn runs_on(instance: &mut Instance, change: Option<&Change>) -> bool
-    ensures { after_change instance.old (option_copied change.entry) ≡ (if result then Some instance.new else None) }
+    ensures { after_change instance.old (option_copied change.entry) ≡
+        (if result then Some instance.new else None) }
 {
     match change {
         None => true,
@@ -266,8 +271,13 @@ impl Instances {
         out: &mut Vec<Effect>,
     ) -> Result<(), NoMemory>
         requires { last_after self.old.last changes.now < 2 ^ 64 }
-        ensures ok { OnOk result (self.new ≡ record { last = last_after self.old.last changes.now; instances = advanced self.old.last changes.now self.old.instances }) }
-        ensures told { OnOk result (out.new.items ≡ out.old.items ++ effects self.old.last changes.now self.old.instances) }
+        ensures ok { OnOk result
+            (self.new ≡ record {
+              last = last_after self.old.last changes.now;
+              instances = advanced self.old.last changes.now self.old.instances;
+            }) }
+        ensures told { OnOk result (out.new.items ≡ out.old.items ++
+            effects self.old.last changes.now self.old.instances) }
         ensures err { OnErr result ((self.new ≡ self.old) × (out.new.items ≡ out.old.items)) }
     {
         let index = index_of(alloc, changes)?;

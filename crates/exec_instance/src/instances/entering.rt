@@ -1,6 +1,7 @@
 //! Answers enter the running instances.
 
-ghost use Rattle.std.specs.Prelude.{◌≡◌, ◌<◌, ◌++◌, ◌∷◌, [], false, Some, None, ℕ, IfOk, IfErr, OnOk, OnErr, MatchOption, MatchResult, IsTrue, ◌↔◌, slice_get, length, map};
+ghost use Rattle.std.specs.Prelude.{◌≡◌, ◌<◌, ◌++◌, ◌∷◌, [], false, Some, None, ℕ, IfOk, IfErr, OnOk, OnErr};
+ghost use Rattle.std.specs.Prelude.{MatchOption, MatchResult, IsTrue, ◌↔◌, slice_get, length, map};
 ghost use Rattle.hh_base.specs.Queue.{ends_with_last};
 ghost use Rattle.exec_instance.specs.Kinds.{same_kind};
 ghost use Rattle.exec_instance.specs.Entering.{under, is_well_typed};
@@ -38,7 +39,8 @@ fn push(queue: &mut Queue, item: Item) -> Result<(), NoMemory>
 
 impl Instances {
     ghost use Rattle.exec_instance.specs.Running.{holder};
-    ghost use Rattle.exec_instance.specs.Entering.{Enters, Drops, verdict, with_item, after, entered, dropped, drops};
+    ghost use Rattle.exec_instance.specs.Entering.{Enters, Drops, verdict, with_item, after, entered};
+    ghost use Rattle.exec_instance.specs.Entering.{dropped, drops};
     ghost use Rattle.exec_instance.specs.Places.{IsHeldAt, IsOpenAt, shortened, queue_length};
 
     /// The place of the instance that has the id.
@@ -52,9 +54,12 @@ impl Instances {
 
     /// The place of the instance that the answer enters, or why it does not enter.
     fn judge(&self, kinds: &[Kind], parts: bool, answer: &Answer) -> Result<usize, Reason>
-        ensures enters { IfOk result (λ place. verdict (under kinds.now parts self.now.last) self.now.instances answer.now ≡ Enters) }
+        ensures enters { IfOk result
+            (λ place. verdict (under kinds.now parts self.now.last) self.now.instances answer.now ≡ Enters) }
         ensures place { IfOk result (IsOpenAt self.now.instances answer.now.id) }
-        ensures drops { IfErr result (λ reason. verdict (under kinds.now parts self.now.last) self.now.instances answer.now ≡ Drops reason) }
+        ensures drops { IfErr result
+            (λ reason. verdict (under kinds.now parts self.now.last) self.now.instances answer.now ≡
+            Drops reason) }
     {
         if answer.id == 0 || answer.id > self.last {
             return Err(Reason::Unknown);
@@ -76,7 +81,8 @@ impl Instances {
     /// Puts the answer at the end of the queue of the instance at this place.
     fn put(&mut self, alloc: Global, place: usize, answer: &Answer) -> Result<(), NoMemory>
         requires { IsOpenAt self.old.instances answer.now.id place }
-        ensures ok { OnOk result (self.new ≡ record self.old { instances = map (with_item answer.now) self.old.instances }) }
+        ensures ok { OnOk result
+            (self.new ≡ record self.old { instances = map (with_item answer.now) self.old.instances }) }
         ensures err { OnErr result (self.new ≡ self.old) }
     {
         let item = answer.item(alloc)?;
@@ -92,8 +98,14 @@ impl Instances {
         answer: &Answer,
         out: &mut Vec<Effect>,
     ) -> Result<(), NoMemory>
-        ensures ok { OnOk result (self.new ≡ record self.old { instances = after (verdict (under kinds.now parts self.old.last) self.old.instances answer.now) answer.now self.old.instances }) }
-        ensures told { OnOk result (out.new.items ≡ out.old.items ++ dropped (verdict (under kinds.now parts self.old.last) self.old.instances answer.now) answer.now) }
+        ensures ok { OnOk result
+            (self.new ≡ record self.old {
+              instances = after (verdict (under kinds.now parts self.old.last) self.old.instances answer.now)
+                  answer.now self.old.instances;
+            }) }
+        ensures told { OnOk result (out.new.items ≡ out.old.items ++
+            dropped (verdict (under kinds.now parts self.old.last) self.old.instances answer.now)
+            answer.now) }
         ensures err { OnErr result ((self.new ≡ self.old) × (out.new.items ≡ out.old.items)) }
     {
         match self.judge(kinds, parts, answer) {
@@ -126,8 +138,11 @@ impl Instances {
         answers: &Answers,
         out: &mut Vec<Effect>,
     ) -> Result<(), NoMemory>
-        ensures ok { OnOk result (self.new ≡ record self.old { instances = entered (under kinds.now parts self.old.last) self.old.instances answers.now }) }
-        ensures told { OnOk result (out.new.items ≡ out.old.items ++ drops (under kinds.now parts self.old.last) self.old.instances answers.now) }
+        ensures ok { OnOk result
+            (self.new ≡ record self.old
+            { instances = entered (under kinds.now parts self.old.last) self.old.instances answers.now }) }
+        ensures told { OnOk result (out.new.items ≡ out.old.items ++
+            drops (under kinds.now parts self.old.last) self.old.instances answers.now) }
         ensures err { OnErr result ((self.new ≡ self.old) × (out.new.items ≡ out.old.items)) }
     {
         let lengths: Vec<usize> = self.queue_lengths(alloc)?;
@@ -154,7 +169,8 @@ impl Instances {
     }
 }
 
-/// Whether the answer is of the kind that the instance's body answers, and last where partial ones are not taken.
+/// Whether the answer is of the kind that the instance's body answers, and last where partial ones are not
+/// taken.
 fn is_well_typed(kinds: &[Kind], parts: bool, instance: &Instance, answer: &Answer) -> bool
     ensures { (last : ℕ) → result ≡ is_well_typed (under kinds.now parts last) instance.now answer.now }
 {

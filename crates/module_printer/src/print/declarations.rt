@@ -1,7 +1,10 @@
 //! Writing the parts of declarations.
 
 ghost use Rattle.std.specs.Prelude.{◌≡◌, ◌∷◌, [], codes};
-ghost use Rattle.module_printer.specs.SourceTokens.{token_of_kind, token_of_combine, tokens_of_kind, tokens_of_dir, tokens_of_type, tokens_of_first, tokens_of_combine, tokens_of_signal, tokens_of_interface, tokens_of_parameter, tokens_of_binding, if_there};
+ghost use Rattle.module_printer.specs.SourceTokens.{token_of_kind, token_of_combine, tokens_of_kind};
+ghost use Rattle.module_printer.specs.SourceTokens.{tokens_of_dir, tokens_of_type, tokens_of_first};
+ghost use Rattle.module_printer.specs.SourceTokens.{tokens_of_combine, tokens_of_signal, tokens_of_interface};
+ghost use Rattle.module_printer.specs.SourceTokens.{tokens_of_parameter, tokens_of_binding, if_there};
 ghost use Rattle.module_printer.specs.ExpressionTokens.{tokens_of_value};
 ghost use Rattle.module_printer.specs.Printed.{Writes};
 

@@ -2,7 +2,9 @@
 
 ghost use Rattle.std.specs.Prelude.{◌≡◌, ◌∷◌};
 ghost use Rattle.module_tree.specs.Parentheses.{at};
-ghost use Rattle.module_printer.specs.ExpressionTokens.{in_parentheses, token_of_op, token_of_rel, token_of_truth, tokens_of_read, tokens_of_expression, written, written_node};
+ghost use Rattle.module_printer.specs.ExpressionTokens.{in_parentheses, token_of_op, token_of_rel};
+ghost use Rattle.module_printer.specs.ExpressionTokens.{token_of_truth, tokens_of_read, tokens_of_expression};
+ghost use Rattle.module_printer.specs.ExpressionTokens.{written, written_node};
 ghost use Rattle.module_printer.specs.SourceTokens.{tokens_of_outermost};
 ghost use Rattle.module_printer.specs.Printed.{Writes};
 

@@ -1,7 +1,12 @@
 //! Writing statements.
 
 ghost use Rattle.std.specs.Prelude.{◌∷◌, ◌++◌, [], codes, map};
-ghost use Rattle.module_printer.specs.SourceTokens.{one_after_another, separated, comma_separated, tokens_of_signal, tokens_of_test, tokens_of_later, tokens_of_delay, tokens_of_answer, tokens_of_call, tokens_of_handlers, tokens_of_async, tokens_of_emission, tokens_of_run, immediate_word, if_there, tokens_of_statement, tokens_of_node, tokens_of_block};
+ghost use Rattle.module_printer.specs.SourceTokens.{one_after_another, separated, comma_separated};
+ghost use Rattle.module_printer.specs.SourceTokens.{tokens_of_signal, tokens_of_test, tokens_of_later};
+ghost use Rattle.module_printer.specs.SourceTokens.{tokens_of_delay, tokens_of_answer, tokens_of_call};
+ghost use Rattle.module_printer.specs.SourceTokens.{tokens_of_handlers, tokens_of_async, tokens_of_emission};
+ghost use Rattle.module_printer.specs.SourceTokens.{tokens_of_run, immediate_word, if_there};
+ghost use Rattle.module_printer.specs.SourceTokens.{tokens_of_statement, tokens_of_node, tokens_of_block};
 ghost use Rattle.module_printer.specs.Printed.{Writes};
 
 use crate::print::printer::Printer;

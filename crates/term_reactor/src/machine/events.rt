@@ -53,7 +53,8 @@ impl TermMachine {
     ) -> Result<Reply, NoMemory>
         requires { IsTurn (kernel_of self.old.program) (reply_of constructive (state_of self.old) event)
             (next_state constructive (state_of self.old) event) turn }
-        ensures reacts { IfOk result (Reacts constructive (state_of self.old) (state_of self.new) event log.old log.new) }
+        ensures reacts { IfOk result
+            (Reacts constructive (state_of self.old) (state_of self.new) event log.old log.new) }
         ensures err { OnErr result ((state_of self.new ≡ state_of self.old) × (log.new ≡ log.old)) }
         ensures kernel { kernel_of self.new.program ≡ kernel_of self.old.program }
     {

@@ -1,6 +1,4 @@
-use Rattle.std.proofs.Common.{add-one, ◌∙◌, ap, ◌≡◌, ◌≤◌, ◌∷◌, [], drop, length, take, arith}
-use Rattle.std.proofs.lemmas.Grind.{common_steps}
-use Rattle.hiphop_main.specs.Lines.{lines_of}
+use Rattle.std.proofs.Common.{add-one, ◌∙◌, arith}
 use Rattle.hiphop_main.proofs.LineLaws.{line_at, last_line, whole_line}
 use Rattle.hiphop_main.proofs.split.line_len.Goals as goal
 

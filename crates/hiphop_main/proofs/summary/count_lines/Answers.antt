@@ -1,4 +1,4 @@
-use Rattle.std.proofs.Common.{◌≡◌, ◌∙◌, ap, arith}
+use Rattle.std.proofs.Common.{◌∙◌, ap, arith}
 use Rattle.hiphop_main.specs.Summary.{is_refusal}
 use Rattle.std.proofs.Common.{cond}
 use Rattle.hiphop_main.proofs.Counts.{at_most_one, counted_on, lines_few, refusals_few}

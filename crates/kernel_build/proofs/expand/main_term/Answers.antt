@@ -1,4 +1,4 @@
-use Rattle.std.proofs.Common.{ℕ, List, length, map, sym}
+use Rattle.std.proofs.Common.{ℕ, length, map, sym}
 use Rattle.std.specs.Borrow.{Bor}
 use Rattle.std.proofs.lemmas.List.{length-map}
 use Rattle.module_tree.specs.declared.source.ModuleNode.{ModuleNode}

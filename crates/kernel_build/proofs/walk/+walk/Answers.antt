@@ -1,10 +1,9 @@
-use Rattle.std.proofs.Common.{ℕ, ◌∙◌, sym, ap, arith, rules}
+use Rattle.std.proofs.Common.{ℕ, ◌∙◌, ap, arith}
 use Rattle.module_tree.specs.declared.source.Statement.{size-Statement}
 use Rattle.module_tree.specs.declared.source.StatementNode.{size-StatementNode}
 use Rattle.kernel_expand.specs.Interpretation.{of_node, of_block}
-use Rattle.kernel_expand.specs.Numbering.{no_traps}
 use Rattle.statement_build.specs.Building.{numbered_of, around_of}
-use Rattle.statement_build.specs.Levels.{kernel_in, runs_in, tail}
+use Rattle.statement_build.specs.Levels.{kernel_in, runs_in}
 use Rattle.kernel_build.proofs.Branches.{branch_is_less}
 use Rattle.kernel_build.proofs.Descending.{left_of, depth_of, found_goes_down, step_goes_down}
 use Rattle.kernel_build.proofs.Gathered.{one_more}

@@ -1,4 +1,4 @@
-use Rattle.std.proofs.Common.{◌≡◌, ℕ, ◌+◌, max, Option, Some, None, map, take}
+use Rattle.std.proofs.Common.{◌≡◌, ℕ, ◌+◌, max, map, take}
 use Rattle.module_tree.specs.declared.source.BlockNode.{size-BlockNode}
 use Rattle.module_tree.specs.declared.source.Statement.{size-Statement}
 use Rattle.module_tree.specs.declared.source.Statement.TheVariants as v

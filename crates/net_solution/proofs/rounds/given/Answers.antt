@@ -1,9 +1,7 @@
-use Rattle.std.proofs.Common.{◌≡◌, refl, sym, ap, ◌∙◌, ℕ, map, get_or}
-use Rattle.hh_base.specs.declared.value.Tri.{Tri}
+use Rattle.std.proofs.Common.{◌≡◌, ap, ◌∙◌, map, get_or}
 use Rattle.hh_base.specs.declared.value.Tri.TheVariants as tri
 use Rattle.net_solution.specs.Equations.{Statuses, gate_value, signal_value}
 use Rattle.net_solution.specs.Places.{question_of, seen_in, seen_by}
-use Rattle.net_solution.specs.Rounds.{known_given}
 use Rattle.net_solution.specs.Solution.{numbered}
 use Rattle.net_solution.proofs.Rounding.{values_are, exact}
 use Rattle.net_solution.proofs.rounds.given.Goals as goal

@@ -8,9 +8,9 @@ use Rattle.net_solution.proofs.signal.meet_all.Given as goal
 
 abbrev pub invariant-loop-emit : goal.invariant-loop-emit
 invariant-loop-emit l =
-    l.tally ≡ tallied l.record.decl.kind l.record.decl.combine
+    l.tally ≡ tallied l.net_signal.decl.kind l.net_signal.decl.combine
     (flat_map (input_of l.signal) (question_of l.asked).given
     ++ flat_map
     (emission_of (question_of l.asked) (λ g. get_or l.place.gates.items g Unknown) (seen_in l.place)
-    l.record.decl.kind l.signal)
+    l.net_signal.decl.kind l.signal)
     (take l.emit-index l.nets.emits))

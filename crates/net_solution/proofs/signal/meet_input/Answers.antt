@@ -1,4 +1,4 @@
-use Rattle.std.proofs.Common.{eq-eqb, sym, ap, subst, cond, ◌∷◌, []}
+use Rattle.std.proofs.Common.{eq-eqb, sym, subst, cond, ◌∷◌, []}
 use Rattle.hh_base.specs.declared.value.Tri.TheVariants as tri
 use Rattle.host_expr.specs.declared.cell.Cell.TheVariants as cell
 use Rattle.net_solution.specs.Tallied.{Meets}

@@ -1,27 +1,13 @@
-use Rattle.std.proofs.Common.{ap, ◌∙◌, cond, not, ◌||◌, get_or}
+use Rattle.std.proofs.Common.{get_or}
 use Rattle.hh_base.specs.declared.value.Tri.TheVariants as tri
-use Rattle.host_expr.specs.declared.cell.Cell.TheVariants as cell
-use Rattle.host_expr.specs.Environment.{env_of}
-use Rattle.hh_term.specs.MustCan.{value_by}
-use Rattle.net_solution.specs.Equations.{emissions_of, is_absent, made}
-use Rattle.net_solution.specs.Places.{question_of, known_by, seen_in}
-use Rattle.net_solution.specs.Tallied.{possible}
-use Rattle.net_solution.proofs.Tallying.{value_told}
+use Rattle.net_solution.specs.Equations.{emissions_of}
+use Rattle.net_solution.specs.Places.{question_of, seen_in}
 use Rattle.net_solution.proofs.signal.signal_value.Goals as goal
 
 pub returns : goal.returns
 returns c =
-    let s = c.args.signal in
-    let k = c.args.record.now.decl.kind in
-    let w = c.args.record.now.decl.combine in
-    let es = emissions_of c.args.nets.now (question_of c.args.asked.now)
-    (λ g. get_or c.args.place.now.gates.items g tri.Unknown) (seen_in c.args.place.now) k s in
-    let base = c.is_base_known-base_known.ensures ∙ ap (λ xs. (known_by xs s).base) c.deref-2.ensures.value in
-    let preval = c.in_ok-preval.ensures ∙ ap (λ xs. (env_of xs s).preval) c.deref.ensures.value in
-    let status = c.solved-solved.ensures.status w (made es) (possible es) c.in_ok-tally.ensures in
-    let value = c.solved-solved.ensures.value w (made es) (possible es) c.in_ok-tally.ensures
-    ∙ ap (λ p. value_by k w p (made es) (possible es)) preval in
-    c.over_base.ensures
-    ∙ (λ i. cond (base i || not (is_absent (status i))) (value i) cell.Unknown)
-    ∙ value_told k w (known_by c.args.place.now.before.items s).base
-    (env_of c.args.place.now.cells.signals.items s).preval es
+    c.in_ok-value.ensures
+    (emissions_of c.args.nets.now (question_of c.args.asked.now)
+    (λ g. get_or c.args.place.now.gates.items g tri.Unknown) (seen_in c.args.place.now)
+    c.args.net_signal.now.decl.kind c.args.signal)
+    c.in_ok-tally.ensures

@@ -1,7 +1,7 @@
-use Rattle.std.proofs.Common.{◌≡◌, ℕ, suc, ◌-◌, Some, refl, ◌∙◌, arith}
+use Rattle.std.proofs.Common.{◌≡◌, ◌-◌, Some, refl, ◌∙◌, arith}
 use Rattle.std.specs.Prelude.{slice_get}
 use Rattle.kernel_expand.proofs.Listing.{found, not_found}
-use Rattle.statement_build.specs.Levels.{modules_in, kernel_in, IsBelow}
+use Rattle.statement_build.specs.Levels.{modules_in, kernel_in}
 use Rattle.statement_build.proofs.Chained.{not_deep, not_there, there, at_most}
 use Rattle.statement_build.proofs.chain.body_of.Goals as goal
 

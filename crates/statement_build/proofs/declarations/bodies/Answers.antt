@@ -1,5 +1,4 @@
-use Rattle.std.proofs.Common.{sym, ap, ◌∙◌, ◌++◌, arith}
-use Rattle.statement_build.specs.Declarations.{listed, part_bodies}
+use Rattle.std.proofs.Common.{sym, ◌∙◌, ◌++◌, arith}
 use Rattle.statement_build.proofs.Declaring.{bodies_more}
 use Rattle.statement_build.proofs.declarations.bodies.Goals as goal
 

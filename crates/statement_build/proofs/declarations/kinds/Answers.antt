@@ -1,4 +1,4 @@
-use Rattle.std.proofs.Common.{map, length, take_all, ap, ◌∙◌, arith}
+use Rattle.std.proofs.Common.{map, take_all, ap, ◌∙◌, arith}
 use Rattle.module_tree.specs.declared.source.ParameterNode.{ParameterNode}
 use Rattle.statement_build.proofs.declarations.kinds.Goals as goal
 

@@ -1,5 +1,4 @@
 use Rattle.std.proofs.Common.{ap, ◌∙◌}
-use Rattle.kernel_expand.specs.Numbering.{Around}
 use Rattle.statement_build.specs.Building.{numbered_of, around_of}
 use Rattle.statement_build.proofs.Opening.{abort_count_wraps, with_counter}
 use Rattle.statement_build.proofs.builder.Builder.abort_count.Goals as goal

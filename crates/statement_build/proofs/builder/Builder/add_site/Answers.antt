@@ -1,4 +1,4 @@
-use Rattle.std.proofs.Common.{◌≡◌, ℕ, [], ◌∷◌, ◌++◌, map, ap, ◌∙◌}
+use Rattle.std.proofs.Common.{◌≡◌, ℕ, map, ap, ◌∙◌}
 use Rattle.host_expr.specs.Expression.{expression_of}
 use Rattle.module_tree.specs.declared.source.ExprAt.{ExprAt}
 use Rattle.hh_term.specs.declared.program.Site.{Site}
