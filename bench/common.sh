@@ -61,10 +61,10 @@ use_play() { # the program of this repository, built where that is needed
     "$top/tools/hiphop" play </dev/null >/dev/null || true
     program=$top/crates/hiphop/out/hiphop
 }
-run_play() { # plays $work/input: tells the seconds and the peak memory in bytes
-    python3 - "$program" "$work/input" "$work/output" <<'P'
+run_program() { # WORDS: runs the program with these words on $work/input: tells the seconds and the peak memory in bytes
+    python3 - "$work/input" "$work/output" "$program" "$@" <<'P'
 import resource, subprocess, sys
-subprocess.run([sys.argv[1], "play"], stdin=open(sys.argv[2]), stdout=open(sys.argv[3], "w"))
+subprocess.run(sys.argv[3:], stdin=open(sys.argv[1]), stdout=open(sys.argv[2], "w"))
 used = resource.getrusage(resource.RUSAGE_CHILDREN)
 print(used.ru_utime + used.ru_stime, used.ru_maxrss * 1024)
 P
@@ -73,7 +73,7 @@ measure_play() { # UNIT SIZES NAME: times `play` on the input NAME of each of th
     local before="" size took peak unit=$1 sizes=$2 name=$3
     for size in $sizes; do
         "$name" "$size" >"$work/input"
-        read -r took peak < <(run_play)
+        read -r took peak < <(run_program play)
         awk -v name="$name" -v size="$size $unit" -v took="$took" -v before="$before" -v peak="$peak" \
             -v bytes="$(stat -c %s "$work/input")" -v lines="$(wc -l <"$work/output")" \
             -v first="$(head -n 1 "$work/output" | cut -c 1-40)" 'BEGIN {
