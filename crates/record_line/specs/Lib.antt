@@ -1,0 +1,2 @@
+pub mod RecordForm
+pub mod RecordReading
