@@ -7,6 +7,7 @@ use Rattle.notify_inbox.specs.declared.view.PassView.{PassView}
 use Rattle.notify_inbox.specs.declared.passes.Inbox.{Inbox}
 use Rattle.notify_inbox.specs.declared.passes.TakePass.{TakePass}
 use Rattle.notify_inbox.specs.declared.passes.PostPass.{PostPass}
+use Rattle.notify_inbox.specs.declared.limits.TheConstants.{INBOX_PLACES}
 use Rattle.notify_inbox.specs.Views.{took_more}
 use Rattle.notify_inbox.specs.Rule.{EndsPosts, FollowsTaken, Gathers}
 
@@ -37,7 +38,7 @@ IsPostPassOf inbox p = IsPassOf inbox.queue p.pass
 
 -- the queue held 4,096 answers at one moment of the call, the last of all posts
 abbrev pub WasFull : PostPass → Type 0
-WasFull p = Held 4096 (EndsPosts (post_view p))
+WasFull p = Held INBOX_PLACES (EndsPosts (post_view p))
 
 -- the queue was empty at one moment of the call: all posts were taken
 abbrev pub WasEmpty : TakePass → Type 0
@@ -73,16 +74,16 @@ pub record TookAll (old new : TakePass) (had has : List Answer) (count : ℕ) : 
   pub more : List Answer
   pub took : Took old new had has more
   pub counted : count ≡ length more
-  pub few : length has ≤ 4096
-  pub end : length has < 4096 → RanDry old new
+  pub few : length has ≤ INBOX_PLACES
+  pub end : length has < INBOX_PLACES → RanDry old new
 
 -- what the queue held was taken, and `rest` is what it holds then. That is nothing where fewer than 4,096
 -- were taken, and where all passes were gathered before, since then nobody posts
 pub record Drained (old new : TakePass) (had has : List Answer) : Type 0 where
   pub more : List Answer
   pub took : Took old new had has more
-  pub few : length more ≤ 4096
+  pub few : length more ≤ INBOX_PLACES
   pub rest : List Answer
   pub posts : Gathers ((take_view new).took ++ rest) (take_view new)
-  pub fewer : length more < 4096 → rest ≡ []
+  pub fewer : length more < INBOX_PLACES → rest ≡ []
   pub all : (take_view old).parts ≡ 16 → rest ≡ []

@@ -6,6 +6,7 @@ use mathlib.Core.Option.{some}
 use lib.ListN.{get_elem?}
 use Rattle.turn_cell.specs.Lists.{total}
 use Rattle.notify_inbox.specs.declared.view.PassView.{PassView}
+use Rattle.notify_inbox.specs.declared.limits.TheConstants.{INBOX_PLACES}
 
 abbrev pub one_if : Bool → ℕ
 one_if true = 1
@@ -58,7 +59,7 @@ module _ {A : Type 0} where
     pub once : (p : ℕ) → total (times_at p) views ≡ below p (length all)
     pub long : total posts_of views ≡ length all
     pub whole : total parts_of views ≡ 16
-    pub few : length items ≤ 4096
+    pub few : length items ≤ INBOX_PLACES
 
   -- what the pass posted, and those that were gathered into it, stands in the list of all posts, and no place
   -- twice. With all parts, each place is that of one of these posts
@@ -77,4 +78,4 @@ module _ {A : Type 0} where
   -- what the take pass learns of it: the list of all posts is what it took, and then this
   pub record FollowsTaken (v : PassView A) (items : List A) : Type 0 where
     pub gathers : Gathers (v.took ++ items) v
-    pub few : length items ≤ 4096
+    pub few : length items ≤ INBOX_PLACES

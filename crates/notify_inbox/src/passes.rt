@@ -1,6 +1,7 @@
 //! The inbox, and the passes with which threads post and take.
 ghost use Rattle.std.specs.Prelude.{◌≡◌, ◌<◌, ◌≤◌, length};
 ghost use Rattle.crossbeam_queue.specs.Passes.{view, ruled_capacity};
+ghost use Rattle.notify_inbox.specs.declared.limits.TheConstants.{INBOX_PLACES, POSTER_LIMIT};
 
 use crate::steps::InboxRule;
 use crate::view::PassView;
@@ -13,8 +14,8 @@ use std::alloc::Global;
 pub struct Inbox {
     pub(crate) queue: RuledArrayQueue<Answer, PassView<Answer>, InboxRule, Global>,
     pub(crate) posters: u64,
-    ghost places: { ruled_capacity queue ≡ 4096 },
-    ghost most: { posters ≤ 9 },
+    ghost places: { ruled_capacity queue ≡ INBOX_PLACES },
+    ghost most: { posters ≤ POSTER_LIMIT },
 }
 
 /// With it a thread posts.

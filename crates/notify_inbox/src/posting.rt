@@ -4,7 +4,9 @@ ghost use Rattle.crossbeam_queue.specs.Passes.{view, IsPassOf};
 ghost use Rattle.notify_inbox.specs.Views.{all_parts, poster, taker, posted};
 ghost use Rattle.notify_inbox.specs.Calls.{take_view, post_view, posters_of, empties_of, IsTakePassOf};
 ghost use Rattle.notify_inbox.specs.Calls.{IsPostPassOf, WasFull};
+ghost use Rattle.notify_inbox.specs.declared.limits.TheConstants.{POSTER_LIMIT};
 
+use crate::limits::INBOX_PLACES;
 use crate::passes::{Full, Inbox, PostPass, TakePass};
 use crate::steps::{Give, InboxRule, Post};
 use crate::view::PassView;
@@ -23,7 +25,7 @@ fn give(
 ) -> Result<Vec<PostPass>, NoMemory>
     requires own { IsPassOf queue.now taking.old }
     requires all { view taking.old ≡ all_parts }
-    requires few { posters ≤ 9 }
+    requires few { posters ≤ POSTER_LIMIT }
     ensures own { IsPassOf queue.now taking.new }
     ensures count { IfOk result (λ passes. length passes.items ≡ posters) }
     ensures posters { IfOk result (λ passes.
@@ -41,7 +43,7 @@ fn give(
 impl Inbox {
     /// An empty inbox with this many posters, their passes and the pass that takes.
     pub fn new(alloc: Global, posters: u32) -> Result<(Inbox, Vec<PostPass>, TakePass), NoMemory>
-        requires { (1 ≤ posters) × (posters ≤ 9) }
+        requires { (1 ≤ posters) × (posters ≤ POSTER_LIMIT) }
         ensures posters { IfOk result (λ r. posters_of r.0 ≡ posters) }
         ensures count { IfOk result (λ r. length r.1.items ≡ posters) }
         ensures passes { IfOk result (λ r.
@@ -50,7 +52,7 @@ impl Inbox {
         ensures taker { IfOk result (λ r. take_view r.2 ≡ taker (16 - posters)) }
         ensures empties { IfOk result (λ r. empties_of r.2 ≡ 0) }
     {
-        let (queue, mut pass) = RuledArrayQueue::ruled(alloc, 4096)?;
+        let (queue, mut pass) = RuledArrayQueue::ruled(alloc, INBOX_PLACES)?;
         let passes = give(&queue, &mut pass, alloc, posters)?;
         let inbox = Inbox {
             queue,

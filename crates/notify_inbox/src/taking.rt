@@ -4,15 +4,14 @@ ghost use Rattle.std.specs.Prelude.{vec_capacity};
 ghost use Rattle.notify_inbox.specs.Views.{taken, gathering};
 ghost use Rattle.notify_inbox.specs.Calls.{take_view, posts_in, empties_of, IsTakePassOf, IsPostPassOf};
 ghost use Rattle.notify_inbox.specs.Calls.{RanDry, TookUpTo, TookAll, Drained};
+ghost use Rattle.notify_inbox.specs.declared.limits.TheConstants.{INBOX_PLACES};
 
+use crate::limits::INBOX_PLACES;
 use crate::passes::{Inbox, PostPass, TakePass};
 use crate::steps::{Gather, Take};
 use exec_instance::answer::Answer;
 use hh_base::value::NoMemory;
 use std::sync::Wait;
-
-/// The places of the queue, and the most that are taken at once.
-const PLACES: usize = 4096;
 
 impl TakePass {
     /// How often it found the queue empty: it rises by one at each None of `take_one`, up to 2^64 - 1.
@@ -79,7 +78,7 @@ impl Inbox {
         into: &mut Vec<Answer>,
     ) -> Result<usize, NoMemory>
         requires own { IsTakePassOf self.now pass.old }
-        requires few { length into.old.items ≤ 4096 }
+        requires few { length into.old.items ≤ INBOX_PLACES }
         ensures own { IsTakePassOf self.now pass.new }
         ensures took { IfOk result (λ n.
             TookAll pass.old pass.new into.old.items into.new.items n) }
@@ -87,7 +86,7 @@ impl Inbox {
         ensures same { OnErr result (into.new.items ≡ into.old.items) }
     {
         let had = into.len();
-        let most = PLACES - had;
+        let most = INBOX_PLACES - had;
         into.reserve(most)?;
         self.take_up_to(rt, pass, into, most);
         Ok(into.len() - had)
@@ -112,12 +111,12 @@ impl Inbox {
     /// Takes what the queue holds at the end, at most 4,096 answers, into a list with room for them.
     pub fn drain<R: Wait>(&self, rt: &R, pass: &mut TakePass, into: &mut Vec<Answer>)
         requires own { IsTakePassOf self.now pass.old }
-        requires room { vec_len into.old + 4096 ≤ vec_capacity into.old }
+        requires room { vec_len into.old + INBOX_PLACES ≤ vec_capacity into.old }
         ensures own { IsTakePassOf self.now pass.new }
         ensures drained { Drained pass.old pass.new into.old.items into.new.items }
     {
         self.queue.learn_as::<Take>(&mut pass.pass);
-        if !self.take_up_to(rt, pass, into, PLACES) {
+        if !self.take_up_to(rt, pass, into, INBOX_PLACES) {
             self.queue.learn_as::<Take>(&mut pass.pass);
         }
     }

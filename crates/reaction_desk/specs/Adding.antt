@@ -2,6 +2,7 @@
 use Rattle.std.specs.Prelude.{◌≡◌, ℕ, ◌+◌, List, [], ◌∷◌, ◌++◌, length, ltb}
 use Rattle.turn_cell.specs.Lists.{total}
 use Rattle.notify_inbox.specs.Rule.{one_if}
+use Rattle.notify_inbox.specs.declared.limits.TheConstants.{INBOX_PLACES}
 use Rattle.reaction_run.specs.declared.event.Event.{Event}
 use Rattle.reaction_run.specs.declared.event.Event.TheVariants.{React, Pump, Reset}
 use Rattle.reaction_run.specs.declared.reply.Reply.{Reply}
@@ -14,14 +15,10 @@ entry_of e r = record { event = e; reply = r }
 abbrev pub IsAdded : List Entry → List Entry → Event → Reply → Type 0
 IsAdded log more e r = more ≡ log ++ entry_of e r ∷ []
 
--- the most answers that an entry takes where it reads the inbox to its end
-abbrev pub most_taken : ℕ
-most_taken = 4096
-
 -- 1 for a React or a Pump with fewer answers
 abbrev pub short_event : Event → ℕ
-short_event (React inputs took) = one_if (ltb (length took) most_taken)
-short_event (Pump took) = one_if (ltb (length took) most_taken)
+short_event (React inputs took) = one_if (ltb (length took) INBOX_PLACES)
+short_event (Pump took) = one_if (ltb (length took) INBOX_PLACES)
 short_event Reset = 0
 
 abbrev pub short_entry : Entry → ℕ

@@ -4,6 +4,7 @@ use Rattle.exec_instance.specs.declared.answer.Answer.{Answer}
 use Rattle.reaction_run.specs.declared.log.Entry.{Entry}
 use Rattle.reaction_run.specs.Legal.{events_of, replies_in, tried}
 use Rattle.turn_cell.specs.Lists.{total}
+use Rattle.notify_inbox.specs.declared.limits.TheConstants.{INBOX_PLACES}
 use Rattle.notify_inbox.specs.Rule.{EachStands, count_at, below}
 
 -- each post was tried by an accepted reaction of the log, or is left: the posts are those that were tried,
@@ -21,6 +22,6 @@ pub record Posted (log : List Entry) (left : List Answer) (passes : List (List (
   pub accounts : Accounts posts log left
   pub stand : EachStands (posts ++ rest) passes
   pub once : (p : ℕ) → total (count_at p) passes ≤ 1
-  pub fewer : length left < 4096 → rest ≡ []
+  pub fewer : length left < INBOX_PLACES → rest ≡ []
   pub all : length passes ≡ posters → rest ≡ []
   pub every : length passes ≡ posters → (p : ℕ) → total (count_at p) passes ≡ below p (length posts)

@@ -3,6 +3,7 @@ ghost use Rattle.std.specs.Prelude.{◌≡◌, ◌≤◌, ◌++◌, [], length};
 ghost use Rattle.reaction_run.specs.Legal.{events_of, took_in};
 ghost use Rattle.notify_inbox.specs.Views.{took_more};
 ghost use Rattle.reaction_desk.specs.Adding.{count_short};
+ghost use Rattle.notify_inbox.specs.declared.limits.TheConstants.{INBOX_PLACES};
 
 use crate::logged::Logged;
 use crate::origin::Origin;
@@ -30,5 +31,5 @@ pub struct Desk<M: Reactor> {
     ghost took: { pass.pass.me.0.client
         ≡ took_more first_pass.value.pass.me.0.client (took_in (events_of logged.log) ++ waiting) },
     ghost short: { count_short logged.log ≤ pass.empties },
-    ghost few: { length waiting ≤ 4096 },
+    ghost few: { length waiting ≤ INBOX_PLACES },
 }

@@ -4,6 +4,7 @@ ghost use Rattle.std.specs.Prelude.{vec_len, vec_capacity};
 ghost use Rattle.reaction_run.specs.declared.event.Event.TheVariants.{React, Pump, Reset};
 ghost use Rattle.reaction_run.specs.Reacting.{InputsFit};
 ghost use Rattle.reaction_desk.specs.Adding.{IsAdded};
+ghost use Rattle.notify_inbox.specs.declared.limits.TheConstants.{INBOX_PLACES};
 
 use crate::logged::Logged;
 use exec_instance::answer::{Answer, Answers};
@@ -24,7 +25,7 @@ fn copies_of(
     pending: &mut Vec<Answer>,
     took: &Answers,
 ) -> Result<Vec<Answer>, NoMemory>
-    requires { length took.now ≤ 4096 }
+    requires { length took.now ≤ INBOX_PLACES }
     ensures same { pending.new.items ≡ pending.old.items }
     ensures more { vec_capacity pending.old ≤ vec_capacity pending.new }
     ensures copies { IfOk result (λ copies. copies.items ≡ took.now) }
@@ -71,7 +72,7 @@ impl<M: Reactor> Logged<M> {
         took: &mut Answers,
     ) -> Result<Reply, NoMemory>
         requires fits { InputsFit (M.signals self.old.first.value) inputs.now }
-        requires few { length took.old ≤ 4096 }
+        requires few { length took.old ≤ INBOX_PLACES }
         ensures first { self.new.first ≡ self.old.first }
         ensures added { IfOk result (IsAdded self.old.log self.new.log (React inputs.now took.old)) }
         ensures took { OnOk result (took.new ≡ []) }
@@ -87,7 +88,7 @@ impl<M: Reactor> Logged<M> {
     /// Reacts without inputs, where answers wait or these are taken. Else the machine is idle. After want of
     /// memory the log and the answers are as before.
     pub fn pump(&mut self, alloc: Global, took: &mut Answers) -> Result<Reply, NoMemory>
-        requires few { length took.old ≤ 4096 }
+        requires few { length took.old ≤ INBOX_PLACES }
         ensures first { self.new.first ≡ self.old.first }
         ensures added { IfOk result (IsAdded self.old.log self.new.log (Pump took.old)) }
         ensures took { OnOk result (took.new ≡ []) }

@@ -6,6 +6,7 @@ ghost use Rattle.notify_inbox.specs.Calls.{RanDry, IsTakePassOf};
 ghost use Rattle.reaction_desk.specs.Adding.{IsAdded};
 ghost use Rattle.reaction_desk.specs.Taking.{TookMore, AddsEntry};
 ghost use Rattle.reaction_desk.specs.Desks.{TakesFrom, opening_of, log_of, waiting_of, pass_of};
+ghost use Rattle.notify_inbox.specs.declared.limits.TheConstants.{INBOX_PLACES};
 
 use crate::desk::Desk;
 use exec_instance::answer::Answers;
@@ -28,10 +29,10 @@ fn take_more<R: Wait>(
     waiting: &mut Answers,
 ) -> Result<(), NoMemory>
     requires own { IsTakePassOf inbox.now pass.old }
-    requires few { length waiting.old ≤ 4096 }
+    requires few { length waiting.old ≤ INBOX_PLACES }
     ensures own { IsTakePassOf inbox.now pass.new }
     ensures took { TookMore pass.old pass.new waiting.old waiting.new }
-    ensures end { OnOk result (length waiting.new < 4096 → RanDry pass.old pass.new) }
+    ensures end { OnOk result (length waiting.new < INBOX_PLACES → RanDry pass.old pass.new) }
 {
     let mut all = replace(waiting, Answers::new(alloc)).into_vec();
     let taken = inbox.take_all(rt, pass, &mut all);

@@ -6,6 +6,7 @@ ghost use Rattle.notify_inbox.specs.Views.{poster};
 ghost use Rattle.notify_inbox.specs.Calls.{post_view, posters_of, IsPostPassOf};
 ghost use Rattle.reaction_desk.specs.declared.desk.Opening.{Opening as AnOpening};
 ghost use Rattle.reaction_history.specs.Calls.{IsSeatOf};
+ghost use Rattle.notify_inbox.specs.declared.limits.TheConstants.{POSTER_LIMIT};
 
 use crate::shared::Shared;
 use hh_base::value::NoMemory;
@@ -36,7 +37,7 @@ impl<M: Reactor + Drop> Shared<M> {
         machine: M,
         posters: u32,
     ) -> Result<(Shared<M>, Seat<Desk<M>>, Vec<PostPass>), NoMemory>
-        requires few { (1 ≤ posters) × (posters ≤ 9) }
+        requires few { (1 ≤ posters) × (posters ≤ POSTER_LIMIT) }
         requires none { (M.state machine).pending ≡ [] }
         ensures own { IfOk result (λ r. IsSeatOf r.0 r.1) }
         ensures first { IfOk result (λ r.
