@@ -1,0 +1,5 @@
+mod Growing
+mod Merging
+mod Rowing
+mod Siting
+mod Examples
