@@ -19,7 +19,7 @@ use std::test::Fail;
 use sync_step::answer::{SignalNow, StepEnd, Stepped};
 use sync_step::step::step;
 
-const PROGRAMS: u64 = 40;
+const PROGRAMS: u64 = 100;
 
 const REACTIONS: u64 = 4;
 
