@@ -1,7 +1,6 @@
-//! Each reaction of random programs, by the engine and by the plain recursions.
+//! Each reaction of random programs, by the engine and by the plain recursion.
 
 use crate::dice::Dice;
-use crate::outcomes::tells;
 use crate::programs::write_program;
 use crate::standing::{none_twice, stand};
 use hh_base::item::Item;
@@ -12,14 +11,13 @@ use host_expr::cell::{Cell, SigCell};
 use last_walk::touch::Touch;
 use module_compile::compile::compile;
 use nested_reaction::interface::solve;
-use nested_step::reaction::react as plain_react;
 use status_rounds::settle::Before;
 use std::alloc::Global;
 use std::test::Fail;
 use sync_step::answer::{SignalNow, StepEnd, Stepped};
 use sync_step::step::step;
 
-const PROGRAMS: u64 = 100;
+const PROGRAMS: u64 = 200;
 
 const REACTIONS: u64 = 4;
 
@@ -129,23 +127,7 @@ fn answer(dice: &mut Dice, at: &mut Stand) {
     let _ = at.marked.answer(id, Item { value, last });
 }
 
-/// Whether the plain reaction has the outcome that is told.
-fn has_outcome(
-    alloc: Global,
-    program: &Program,
-    at: &Stand,
-    inputs: &[(u32, Value)],
-    end: &StepEnd,
-) -> Result<bool, Fail> {
-    if at.before.cells.len() != program.interface_len() as usize {
-        return Err(Fail::new("the interface does not fit"));
-    }
-    let cells = &at.before.cells;
-    let outcome = plain_react(alloc, program, &at.marked, cells, inputs, at.last)?;
-    Ok(tells(program, end, &outcome))
-}
-
-/// Whether the plain recursion tells the same of the interface.
+/// Whether the plain recursion tells the same.
 fn agrees(
     alloc: Global,
     program: &Program,
@@ -172,9 +154,6 @@ fn react(
     }
     let end = step(alloc, program, &at.marked, &at.before, inputs, at.last)?;
     if !agrees(alloc, program, at, inputs, &end)? {
-        return Ok(false);
-    }
-    if !has_outcome(alloc, program, at, inputs, &end)? {
         return Ok(false);
     }
     if let StepEnd::Stepped(stepped) = &end {

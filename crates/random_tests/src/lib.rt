@@ -1,13 +1,11 @@
-//! Random small programs, whose reactions by the engine are compared with those by the plain recursions of the
-//! definition: what the interface is, and what is done.
+//! Random small programs, whose reactions by the engine are compared with those by the plain recursion of the
+//! definition.
 #![tactic(auto)]
 
 #[cfg(test)]
 mod comparing;
 #[cfg(test)]
 mod dice;
-#[cfg(test)]
-mod outcomes;
 #[cfg(test)]
 mod programs;
 #[cfg(test)]
